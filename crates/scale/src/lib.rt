@@ -1,9 +1,19 @@
 // Kinds of mark and the order of their cuts: what recordings hold and what limits are made of.
 mod cuts;
 mod faults;
+mod held;
+mod numbered;
+mod readings;
 mod scales;
+mod stages;
+mod values;
 mod words;
 
 pub use cuts::Cut;
+pub use cuts::lies_between;
+pub use faults::Layer;
 pub use faults::ScaleFault;
+pub use held::Word;
 pub use scales::Scale;
+pub use stages::Stage;
+pub use values::Reading;
