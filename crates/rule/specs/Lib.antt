@@ -1,0 +1,4 @@
+pub mod Faults
+pub mod Formulas
+pub mod Orders
+pub mod Parts
