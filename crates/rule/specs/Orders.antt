@@ -14,3 +14,8 @@ reach (Binary _ left right) = max left right + 1
 -- the operands of each part have lower numbers than the part
 abbrev pub Ordered : {K : Type 0} → List (Part K) → Type 0
 Ordered {K} parts = (i : ℕ) (d : Part K) → i < length parts → reach (getD parts i d) ≤ i
+
+-- a formula has at most 24 parts, and takes one more only after its operands
+pub record Fits {K : Type 0} (part : Part K) (parts : List (Part K)) : Type 0 where
+  pub room : length parts < 24
+  pub after : reach part ≤ length parts

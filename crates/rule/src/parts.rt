@@ -1,5 +1,7 @@
 // The parts that a formula is made of: comparisons, and operators over parts with lower numbers.
 ghost use mathlib.Core.Path.{_≡_};
+ghost use lib.Dec.{leb};
+ghost use Rattle.rule.specs.Orders.{reach};
 ghost use Rattle.rule.specs.Parts.{limitIndex, opposed};
 
 // A limit that the rule leaves open.
@@ -90,4 +92,17 @@ pub enum Part<K> {
         left: usize,
         right: usize,
     },
+}
+
+impl<K: Copy> Part<K> {
+    // Whether the operands have lower numbers than the one given.
+    pub fn comes_after(&self, number: usize) -> bool
+        ensures { λ r. ⌜ r ≡ leb (reach (now (self .entry))) number ⌝ }
+    {
+        match self {
+            Part::Comparison { .. } => true,
+            Part::Unary { operand, .. } => *operand < number,
+            Part::Binary { left, right, .. } => *left < number && *right < number,
+        }
+    }
 }

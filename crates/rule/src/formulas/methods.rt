@@ -4,9 +4,10 @@ ghost use mathlib.Core.List.{[], _∷_, _++_};
 ghost use Prim.Native.Nat.{_≤_, _<_};
 ghost use lib.ListN.{length};
 ghost use lib.Dec.{eqb};
+ghost use Rattle.std.specs.Orderings.{When};
 ghost use Rattle.std.specs.Vec.{made};
 ghost use Rattle.rule.specs.Formulas.{partsOf};
-ghost use Rattle.rule.specs.Orders.{Ordered};
+ghost use Rattle.rule.specs.Orders.{Fits, Ordered};
 use crate::formulas::Formula;
 use crate::parts::Part;
 use std::alloc::AllocError;
@@ -48,5 +49,17 @@ impl<K: Copy> Formula<K> {
         ensures { λ _. ⌜ partsOf (now (self .exit)) ≡ [] ⌝ }
     {
         self.parts.clear();
+    }
+    // Adds a part after the others. Refused, with nothing changed, where there is no room for one more or an operand does
+    // not come before the part. Answers whether the part was taken.
+    pub fn push(&mut self, part: Part<K>) -> bool
+        ensures { λ r. ⌜ When r (Fits part (partsOf (now (self .entry))) × (partsOf (now (self .exit)) ≡ partsOf (now (self .entry)) ++ part ∷ [])) ((Fits part (partsOf (now (self .entry))) → ⊥) × (partsOf (now (self .exit)) ≡ partsOf (now (self .entry)))) ⌝ }
+    {
+        let number = self.parts.len();
+        if number == MAX_PARTS || !part.comes_after(number) {
+            return false;
+        }
+        self.parts.push_reserved(part);
+        true
     }
 }
