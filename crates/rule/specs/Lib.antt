@@ -1,4 +1,6 @@
+pub mod Cursors
 pub mod Faults
 pub mod Formulas
 pub mod Orders
 pub mod Parts
+pub mod Spellings

@@ -7,6 +7,9 @@ use crate::parts::Part;
 
 mod methods;
 
+// The most parts that a formula can have.
+pub const MAX_PARTS: usize = 24;
+
 // All memory is taken when a formula is made, so no later change can want for it.
 #[derive(Drop)]
 pub struct Formula<K> {

@@ -2,6 +2,7 @@
 mod faults;
 mod formulas;
 mod parts;
+mod readers;
 
 pub use faults::TextFault;
 pub use faults::TextFaultFromScale;

@@ -9,12 +9,10 @@ ghost use Rattle.std.specs.Vec.{made};
 ghost use Rattle.rule.specs.Formulas.{partsOf};
 ghost use Rattle.rule.specs.Orders.{Fits, Ordered};
 use crate::formulas::Formula;
+use crate::formulas::MAX_PARTS;
 use crate::parts::Part;
 use std::alloc::AllocError;
 use std::alloc::Global;
-
-// The most parts that a formula can have.
-pub const MAX_PARTS: usize = 24;
 
 impl<K: Copy> Formula<K> {
     // A blank formula, with the memory for every part that it can have.
