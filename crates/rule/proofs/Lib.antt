@@ -1,1 +1,2 @@
 mod Extends
+mod Stretches

@@ -5,6 +5,7 @@ ghost use mathlib.Core.Logic.{_⊎_};
 ghost use Prim.Native.Nat.{_<_};
 ghost use lib.ListN.{length};
 ghost use Rattle.std.specs.Options.{Cases as BySome};
+ghost use Rattle.std.specs.Orderings.{When};
 ghost use Rattle.std.specs.Results.{Cases};
 ghost use Rattle.rule.specs.Cursors.{Ahead, Passes};
 use crate::faults::TextFault;
@@ -38,16 +39,27 @@ impl Cursor<'_> {
         TextFault::Form { place: self.at }
     }
 
-    // Passes the next byte if it is the one wanted.
-    pub fn expect(&mut self, byte: u8) -> Result<(), TextFault>
-        ensures { λ r. ⌜ Cases r (λ _. Ahead (now (self .entry)) byte × Passes (now (self .entry)) (now (self .exit)) (byte ∷ []) 0) (λ e. (e ≡ TextFault.Form (now (self .entry) .at)) × (Ahead (now (self .entry)) byte → ⊥)) ⌝ }
+    // Passes the next byte if it is the given one, and answers whether it was.
+    pub fn takes(&mut self, byte: u8) -> bool
+        ensures { λ r. ⌜ When r (Ahead (now (self .entry)) byte × Passes (now (self .entry)) (now (self .exit)) (byte ∷ []) 0) ((now (self .exit) ≡ now (self .entry)) × (Ahead (now (self .entry)) byte → ⊥)) ⌝ }
     {
         match self.peek() {
             Some(next) if next == byte => {
                 self.pass(byte);
-                Ok(())
+                true
             }
-            _ => Err(self.misfit()),
+            _ => false,
+        }
+    }
+
+    // Passes the next byte, which has to be the given one.
+    pub fn expect(&mut self, byte: u8) -> Result<(), TextFault>
+        ensures { λ r. ⌜ Cases r (λ _. Ahead (now (self .entry)) byte × Passes (now (self .entry)) (now (self .exit)) (byte ∷ []) 0) (λ e. (e ≡ TextFault.Form (now (self .entry) .at)) × (Ahead (now (self .entry)) byte → ⊥)) ⌝ }
+    {
+        if self.takes(byte) {
+            Ok(())
+        } else {
+            Err(self.misfit())
         }
     }
 

@@ -4,7 +4,10 @@ ghost use mathlib.Core.List.{[], _∷_};
 ghost use Prim.Native.Nat.{ℕ, _<_, _≤_};
 ghost use lib.ListN.{length, getD};
 ghost use Rattle.std.specs.Results.{Cases};
+ghost use Rattle.std.specs.Orderings.{When};
+ghost use Rattle.scale.specs.Marks.{RunByte};
 ghost use Rattle.rule.specs.Cursors.{Ahead, Passes, Digit};
+ghost use Rattle.rule.specs.Runs.{IsRun, bytesIn};
 ghost use Rattle.rule.specs.Spellings.{decimal, comparatorText};
 use crate::faults::TextFault;
 use crate::parts::Comparator;
@@ -14,7 +17,7 @@ use crate::readers::Run;
 impl Cursor<'_> {
     // The number of a channel, 0 to 15 without leading zero.
     pub fn channel_number(&mut self) -> Result<usize, TextFault>
-        ensures { λ r. ⌜ Cases r (λ n. (n < 16) × Passes (now (self .entry)) (now (self .exit)) (decimal n) 0) (λ e. (e ≡ TextFault.Form (now (self .entry) .at)) × ((d : ℕ) → Digit d → Ahead (now (self .entry)) d → ⊥)) ⌝ }
+        ensures { λ r. ⌜ Cases r (λ n. (n < 16) × Passes (now (self .entry)) (now (self .exit)) (decimal n) 0 × (n ≡ 1 → (d : ℕ) → 48 ≤ d → d ≤ 53 → Ahead (now (self .exit)) d → ⊥)) (λ e. (e ≡ TextFault.Form (now (self .entry) .at)) × ((d : ℕ) → Digit d → Ahead (now (self .entry)) d → ⊥)) ⌝ }
     {
         let first = match self.peek() {
             Some(digit @ b'0'..=b'9') => digit,
@@ -31,5 +34,57 @@ impl Cursor<'_> {
             }
             _ => Ok(1),
         }
+    }
+
+    // One of `<`, `>`, `<=` and `>=`, as long as it goes.
+    pub fn comparator(&mut self) -> Result<Comparator, TextFault>
+        ensures { λ r. ⌜ Cases r (λ v. Passes (now (self .entry)) (now (self .exit)) (comparatorText v) 0 × (length (comparatorText v) ≡ 1 → Ahead (now (self .exit)) 61 → ⊥)) (λ e. (e ≡ TextFault.Form (now (self .entry) .at)) × (Ahead (now (self .entry)) 60 → ⊥) × (Ahead (now (self .entry)) 62 → ⊥)) ⌝ }
+    {
+        match self.peek() {
+            Some(b'<') => {
+                self.pass(b'<');
+                Ok(if self.takes(b'=') {
+                    Comparator::AtMost
+                } else {
+                    Comparator::Less
+                })
+            }
+            Some(b'>') => {
+                self.pass(b'>');
+                Ok(if self.takes(b'=') {
+                    Comparator::AtLeast
+                } else {
+                    Comparator::Greater
+                })
+            }
+            _ => Err(self.misfit()),
+        }
+    }
+
+    // The longest run of small letters, digits and `-`, of which there has to be one.
+    pub fn run(&mut self) -> Result<Run, TextFault>
+        ensures { λ r. ⌜ Cases r (λ run. IsRun (now (self .entry) .text .now) run × (run .start ≡ now (self .entry) .at) × (run .end ≡ now (self .exit) .at) × Passes (now (self .entry)) (now (self .exit)) (bytesIn (now (self .entry) .text .now) run) 0) (λ e. (e ≡ TextFault.Form (now (self .entry) .at)) × ((b : ℕ) → RunByte b → Ahead (now (self .entry)) b → ⊥)) ⌝ }
+    {
+        let start = self.at;
+        while self.at < self.text.len() && is_run_byte(self.text[self.at]) {
+            self.at += 1;
+        }
+        if self.at == start {
+            return Err(self.misfit());
+        }
+        Ok(Run {
+            start,
+            end: self.at,
+        })
+    }
+}
+
+// Whether a byte can stand in a run.
+fn is_run_byte(byte: u8) -> bool
+    ensures { λ r. ⌜ When r (RunByte byte) (RunByte byte → ⊥) ⌝ }
+{
+    match byte {
+        b'a'..=b'z' | b'0'..=b'9' | b'-' => true,
+        _ => false,
     }
 }
