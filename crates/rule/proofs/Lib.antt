@@ -1,2 +1,5 @@
+mod Compared
 mod Extends
+mod Names
+mod Passing
 mod Stretches

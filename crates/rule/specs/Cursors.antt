@@ -19,6 +19,12 @@ pub record Passes (before after : Cursor) (bytes : List ℕ) (parts : ℕ) : Typ
   pub over : rest before ≡ bytes ++ rest after
   pub counts : after .met ≡ before .met + parts
 
+-- one more part was met, and nothing was read
+pub record Meets (before after : Cursor) : Type 0 where
+  pub same : after .text ≡ before .text
+  pub here : after .at ≡ before .at
+  pub counts : after .met ≡ before .met + 1
+
 -- a decimal digit
 abbrev pub Digit : ℕ → Type 0
 Digit b = (48 ≤ b) × (b ≤ 57)

@@ -57,7 +57,18 @@ impl<K: Copy> Formula<K> {
         if number == MAX_PARTS || !part.comes_after(number) {
             return false;
         }
-        self.parts.push_reserved(part);
+        self.append(part);
         true
+    }
+
+    // Adds a part after the others, where it fits, and answers its number.
+    pub(crate) fn append(&mut self, part: Part<K>) -> usize
+        requires { ⌜ Fits part (partsOf (now self)) ⌝ }
+        ensures items { λ _. ⌜ partsOf (now (self .exit)) ≡ partsOf (now (self .entry)) ++ part ∷ [] ⌝ }
+        ensures value { λ r. ⌜ r ≡ length (partsOf (now (self .entry))) ⌝ }
+    {
+        let number = self.parts.len();
+        self.parts.push_reserved(part);
+        number
     }
 }

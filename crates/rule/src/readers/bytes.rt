@@ -7,7 +7,7 @@ ghost use lib.ListN.{length};
 ghost use Rattle.std.specs.Options.{Cases as BySome};
 ghost use Rattle.std.specs.Orderings.{When};
 ghost use Rattle.std.specs.Results.{Cases};
-ghost use Rattle.rule.specs.Cursors.{Ahead, Passes};
+ghost use Rattle.rule.specs.Cursors.{Ahead, Meets, Passes};
 use crate::faults::TextFault;
 use crate::formulas::MAX_PARTS;
 use crate::readers::Cursor;
@@ -65,7 +65,7 @@ impl Cursor<'_> {
 
     // Counts a part that is met under the cursor.
     pub fn meet(&mut self) -> Result<(), TextFault>
-        ensures { λ r. ⌜ Cases r (λ _. Passes (now (self .entry)) (now (self .exit)) [] 1) (λ e. (e ≡ TextFault.Parts (now (self .entry) .at)) × (now (self .entry) .met ≡ 24)) ⌝ }
+        ensures { λ r. ⌜ Cases r (λ _. Meets (now (self .entry)) (now (self .exit))) (λ e. (e ≡ TextFault.Parts (now (self .entry) .at)) × (now (self .entry) .met ≡ 24)) ⌝ }
     {
         if self.met == MAX_PARTS {
             return Err(TextFault::Parts { place: self.at });

@@ -7,10 +7,19 @@ ghost use Rattle.std.specs.Results.{Cases};
 ghost use Rattle.std.specs.Orderings.{When};
 ghost use Rattle.scale.specs.Marks.{RunByte};
 ghost use Rattle.rule.specs.Cursors.{Ahead, Passes, Digit};
+ghost use Rattle.std.specs.Vec.{made};
+ghost use Rattle.rule.specs.Formulas.{partsOf};
+ghost use Rattle.rule.specs.Operands.{MeantBy};
+ghost use Rattle.rule.specs.Reads.{Reads, Stands};
+ghost use Rattle.rule.specs.Trees.{operandText};
 ghost use Rattle.rule.specs.Runs.{IsRun, bytesIn};
 ghost use Rattle.rule.specs.Spellings.{decimal, comparatorText};
 use crate::faults::TextFault;
+use crate::formulas::Formula;
 use crate::parts::Comparator;
+use crate::parts::LimitName;
+use crate::parts::Operand;
+use crate::parts::Part;
 use crate::readers::Cursor;
 use crate::readers::Run;
 
@@ -77,6 +86,33 @@ impl Cursor<'_> {
             end: self.at,
         })
     }
+
+    // An operand, which is a run.
+    pub fn operand(&mut self) -> Result<Operand<Run>, TextFault>
+        ensures { λ r. ⌜ Cases r (λ o. Stands (now (self .entry) .text .now) o × Passes (now (self .entry)) (now (self .exit)) (operandText (bytesIn (now (self .entry) .text .now)) o) 0 × ((b : ℕ) → RunByte b → Ahead (now (self .exit)) b → ⊥)) (λ e. (e ≡ TextFault.Form (now (self .entry) .at)) × ((b : ℕ) → RunByte b → Ahead (now (self .entry)) b → ⊥)) ⌝ }
+    {
+        let run = self.run()?;
+        let Run { start, end } = run;
+        Ok(operand_of(&self.text[start..end], run))
+    }
+
+    // A comparison, whose first byte is under the cursor. Answers the number of its part.
+    pub fn comparison(&mut self, out: &mut Formula<Run>) -> Result<usize, TextFault>
+        requires ahead { ⌜ Ahead (now self) 99 ⌝ }
+        requires room { ⌜ length (partsOf (now out)) ≤ now self .met ⌝ }
+        ensures { λ r. ⌜ made r (Reads (now (self .entry)) (now (self .exit)) 0 (partsOf (now (out .entry))) (partsOf (now (out .exit)))) ⌝ }
+    {
+        self.meet()?;
+        self.pass(b'c');
+        let channel = self.channel_number()?;
+        let comparator = self.comparator()?;
+        let operand = self.operand()?;
+        Ok(out.append(Part::Comparison {
+            channel,
+            comparator,
+            operand,
+        }))
+    }
 }
 
 // Whether a byte can stand in a run.
@@ -86,5 +122,19 @@ fn is_run_byte(byte: u8) -> bool
     match byte {
         b'a'..=b'z' | b'0'..=b'9' | b'-' => true,
         _ => false,
+    }
+}
+
+// What a run stands for: a limit, a channel, or else a constant that the scale is to read.
+fn operand_of(bytes: &[u8], run: Run) -> Operand<Run>
+    ensures { λ r. ⌜ MeantBy (now (bytes .entry)) run r ⌝ }
+{
+    match bytes {
+        b"p" => Operand::Limit(LimitName::P),
+        b"q" => Operand::Limit(LimitName::Q),
+        b"r" => Operand::Limit(LimitName::R),
+        [b'c', digit @ b'0'..=b'9'] => Operand::Channel((*digit - b'0') as usize),
+        [b'c', b'1', digit @ b'0'..=b'5'] => Operand::Channel(10 + (*digit - b'0') as usize),
+        _ => Operand::Constant(run),
     }
 }

@@ -5,7 +5,7 @@ use lib.ListN.{length}
 use Rattle.std.specs.Of.Vec.{vec-items}
 use Rattle.rule.specs.Orders.{reach, Ordered}
 use Rattle.rule.proofs.Extends.{ordered-more}
-use Rattle.rule.proofs.formulas.Formula.push.Needs as need
+use Rattle.rule.proofs.formulas.Formula.append.Needs as need
 
 -- the parts with one more at their end are ordered
 pub ghost-self : need.ghost-self
