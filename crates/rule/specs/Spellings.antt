@@ -46,3 +46,11 @@ binaryText WeakUntil = codes "W"
 binaryText And = codes "&"
 binaryText Or = codes "|"
 binaryText Implies = codes "=>"
+
+-- the byte that an operator between two operands begins with
+abbrev pub firstOf : BinaryOperator → ℕ
+firstOf Until = 85
+firstOf WeakUntil = 87
+firstOf And = 38
+firstOf Or = 124
+firstOf Implies = 61

@@ -4,6 +4,8 @@ ghost use lib.ListN.{length};
 
 mod bytes;
 mod comparisons;
+mod operators;
+mod wholes;
 
 // The bytes of a text from `start` to before `end`.
 #[derive(Clone, Copy)]
