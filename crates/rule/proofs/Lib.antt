@@ -1,5 +1,7 @@
 mod Compared
+mod Composed
 mod Extends
 mod Names
+mod Numbering
 mod Passing
 mod Stretches

@@ -38,5 +38,9 @@ fn formula(cursor: &mut Cursor<'_>, left: usize, out: &mut Formula<Run>) -> Resu
     cursor.open(left)?;
     let right_operand = formula(cursor, left - 1, out)?;
     cursor.expect(b')')?;
-    Ok(out.append(Part::Binary { operator, left: left_operand, right: right_operand }))
+    Ok(out.append(Part::Binary {
+        operator,
+        left: left_operand,
+        right: right_operand,
+    }))
 }
