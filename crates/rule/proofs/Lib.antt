@@ -1,5 +1,6 @@
 mod Compared
 mod Composed
+mod Drawing
 mod Extends
 mod Names
 mod Numbering

@@ -2,8 +2,9 @@
 use mathlib.Core.List.{List, _++_}
 use mathlib.Core.Path.{_≡_}
 use Prim.Native.Nat.{ℕ, _≤_, _<_}
-use lib.ListN.{length}
+use lib.ListN.{length, getD}
 use Rattle.rule.specs.declared.parts.Part.{Part}
+use Rattle.rule.specs.declared.parts.Part.the-variants.{Comparison, Unary, Binary}
 use Rattle.rule.specs.declared.parts.Operand.{Operand}
 use Rattle.rule.specs.declared.parts.Operand.the-variants.{Limit, Channel, Constant}
 use Rattle.rule.specs.declared.readers.Cursor.{Cursor}
@@ -19,6 +20,16 @@ abbrev pub Stands : List ℕ → Operand Run → Type 0
 Stands text (Limit l) = Unit {0}
 Stands text (Channel n) = n < 16
 Stands text (Constant run) = IsRun text run × Unnamed (bytesIn text run)
+
+-- the same of a comparison among the parts
+abbrev pub Drawn : List ℕ → Part Run → Type 0
+Drawn text (Comparison channel comparator operand) = Stands text operand
+Drawn text (Unary _ _) = Unit {0}
+Drawn text (Binary _ _ _) = Unit {0}
+
+-- every operand among the parts is one that the text has
+abbrev pub AllDrawn : List ℕ → List (Part Run) → Type 0
+AllDrawn text parts = (i : ℕ) (d : Part Run) → i < length parts → Drawn text (getD parts i d)
 
 -- the same of every comparison in a tree
 abbrev pub Formed : List ℕ → Tree Run → Type 0

@@ -10,7 +10,7 @@ ghost use Rattle.rule.specs.Cursors.{Ahead, Passes, Digit};
 ghost use Rattle.std.specs.Vec.{made};
 ghost use Rattle.rule.specs.Formulas.{partsOf};
 ghost use Rattle.rule.specs.Operands.{MeantBy};
-ghost use Rattle.rule.specs.Reads.{Reads, Stands};
+ghost use Rattle.rule.specs.Reads.{AllDrawn, Reads, Stands};
 ghost use Rattle.rule.specs.Trees.{operandText};
 ghost use Rattle.rule.specs.Runs.{IsRun, bytesIn};
 ghost use Rattle.rule.specs.Spellings.{decimal, comparatorText};
@@ -100,7 +100,8 @@ impl Cursor<'_> {
     pub fn comparison(&mut self, out: &mut Formula<Run>) -> Result<usize, TextFault>
         requires ahead { ⌜ Ahead (now self) 99 ⌝ }
         requires room { ⌜ length (partsOf (now out)) ≤ now self .met ⌝ }
-        ensures { λ r. ⌜ made r (Reads (now (self .entry)) (now (self .exit)) 0 (partsOf (now (out .entry))) (partsOf (now (out .exit)))) ⌝ }
+        ensures drawn { λ _. ⌜ (AllDrawn (now (self .entry) .text .now) (partsOf (now (out .entry))) → AllDrawn (now (self .entry) .text .now) (partsOf (now (out .exit)))) ⌝ }
+        ensures read { λ r. ⌜ made r (Reads (now (self .entry)) (now (self .exit)) 0 (partsOf (now (out .entry))) (partsOf (now (out .exit)))) ⌝ }
     {
         self.meet()?;
         self.pass(b'c');

@@ -3,7 +3,7 @@ ghost use Prim.Native.Nat.{_≤_};
 ghost use lib.ListN.{length};
 ghost use Rattle.std.specs.Vec.{made};
 ghost use Rattle.rule.specs.Formulas.{partsOf};
-ghost use Rattle.rule.specs.Reads.{Reads};
+ghost use Rattle.rule.specs.Reads.{AllDrawn, Reads};
 use crate::faults::TextFault;
 use crate::formulas::Formula;
 use crate::parts::Part;
@@ -15,7 +15,8 @@ use crate::readers::operators::unary_operator;
 // of its last part.
 fn formula(cursor: &mut Cursor<'_>, left: usize, out: &mut Formula<Run>) -> Result<usize, TextFault>
     requires { ⌜ length (partsOf (now out)) ≤ now cursor .met ⌝ }
-    ensures { λ r. ⌜ made r (Reads (now (cursor .entry)) (now (cursor .exit)) left (partsOf (now (out .entry))) (partsOf (now (out .exit)))) ⌝ }
+    ensures drawn { λ _. ⌜ (AllDrawn (now (cursor .entry) .text .now) (partsOf (now (out .entry))) → AllDrawn (now (cursor .entry) .text .now) (partsOf (now (out .exit)))) ⌝ }
+    ensures read { λ r. ⌜ made r (Reads (now (cursor .entry)) (now (cursor .exit)) left (partsOf (now (out .entry))) (partsOf (now (out .exit)))) ⌝ }
 {
     let Some(byte) = cursor.peek() else {
         return Err(cursor.misfit());
