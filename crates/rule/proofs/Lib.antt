@@ -1,6 +1,7 @@
 mod Compared
 mod Composed
 mod Drawing
+mod Ending
 mod Extends
 mod Names
 mod Numbering

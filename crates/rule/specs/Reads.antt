@@ -52,3 +52,12 @@ pub record Reads (before after : Cursor) (brackets : ℕ) (old new : List (Part 
   pub shallow : depth tree ≤ brackets
   pub added : new ≡ old ++ numbered (length old) tree
   pub last : r ≡ root (length old) tree
+
+-- the whole text spells one formula, with at most 12 brackets open at once and at most 24 parts, which are these
+pub record Spelt (text : List ℕ) (parts : List (Part Run)) : Type 0 where
+  pub tree : Tree Run
+  pub spelled : spelling (bytesIn text) tree ≡ text
+  pub formed : Formed text tree
+  pub shallow : depth tree ≤ 12
+  pub few : size tree ≤ 24
+  pub listed : parts ≡ numbered 0 tree

@@ -85,4 +85,14 @@ impl Cursor<'_> {
         }
         Ok(())
     }
+
+    // Refuses whatever is left of the text.
+    pub fn finish(&self) -> Result<(), TextFault>
+        ensures { λ r. ⌜ Cases r (λ _. now (self .entry) .at ≡ length (now (self .entry) .text .now)) (λ e. (e ≡ TextFault.Form (now (self .entry) .at)) × (now (self .entry) .at < length (now (self .entry) .text .now))) ⌝ }
+    {
+        if self.at < self.text.len() {
+            return Err(self.misfit());
+        }
+        Ok(())
+    }
 }

@@ -3,13 +3,16 @@ ghost use Prim.Native.Nat.{_≤_};
 ghost use lib.ListN.{length};
 ghost use Rattle.std.specs.Vec.{made};
 ghost use Rattle.rule.specs.Formulas.{partsOf};
-ghost use Rattle.rule.specs.Reads.{AllDrawn, Reads};
+ghost use Rattle.rule.specs.Reads.{AllDrawn, Reads, Spelt};
 use crate::faults::TextFault;
 use crate::formulas::Formula;
 use crate::parts::Part;
 use crate::readers::Cursor;
 use crate::readers::Run;
 use crate::readers::operators::unary_operator;
+
+// The most brackets that may be open at once.
+const MAX_BRACKETS: usize = 12;
 
 // Reads one formula in which at most `left` more brackets are open at once, and adds its parts to `out`. Answers the number
 // of its last part.
@@ -44,4 +47,19 @@ fn formula(cursor: &mut Cursor<'_>, left: usize, out: &mut Formula<Run>) -> Resu
         left: left_operand,
         right: right_operand,
     }))
+}
+
+// Reads a whole text. The parts that were read stay in `out` also where the text is refused.
+pub fn read_text(text: &[u8], out: &mut Formula<Run>) -> Result<(), TextFault>
+    ensures drawn { λ _. ⌜ AllDrawn (now (text .entry)) (partsOf (now (out .exit))) ⌝ }
+    ensures read { λ r. ⌜ made r (λ _. Spelt (now (text .entry)) (partsOf (now (out .exit)))) ⌝ }
+{
+    out.clear();
+    let mut cursor = Cursor {
+        text,
+        at: 0,
+        met: 0,
+    };
+    formula(&mut cursor, MAX_BRACKETS, out)?;
+    cursor.finish()
 }
