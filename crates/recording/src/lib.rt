@@ -1,4 +1,5 @@
 // Recordings: marks told at points in time, channel by channel.
+mod checks;
 mod faults;
 mod recordings;
 mod records;
