@@ -1,1 +1,2 @@
+mod Filing
 mod Words
