@@ -25,13 +25,14 @@ module _ {M : Type 0} (named : ℕ → Option M) (rest : M) (bytes : List ℕ) (
   pub filed-sound : recordsIn bytes ≤ 2048 → Rising (tickOf bytes) (recordsIn bytes) → Sound rest (filed named rest bytes)
   filed-sound few rising =
       record {
-          room = omega arith;
-          small = few;
-          some-channel = omega arith;
-          few-channels = omega arith;
-          ticks-fit = ticks-fit;
-          ticks-rise = λ i h. let up = rising i h in grind (arith, tells);
-          no-tick = λ i h. grind (arith, tells);
-          no-point = λ i c h. grind (arith, tells);
-          no-channel = λ i c h. grind (arith, tells);
-          not-given = λ c h. grind (arith, tells) }
+        room = omega arith;
+        small = few;
+        some-channel = omega arith;
+        few-channels = omega arith;
+        ticks-fit = ticks-fit;
+        ticks-rise = λ i h. let up = rising i h in grind (arith, tells);
+        no-tick = λ i h. grind (arith, tells);
+        no-point = λ i c h. grind (arith, tells);
+        no-channel = λ i c h. grind (arith, tells);
+        not-given = λ c h. grind (arith, tells);
+      }

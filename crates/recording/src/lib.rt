@@ -15,4 +15,5 @@ pub use faults::TapeFaultFromScale;
 pub use faults::TapeFaultPartialEq;
 pub use files::FiledRecording;
 pub use files::FiledRecordingRecording;
+pub use recordings::MOST_POINTS;
 pub use recordings::Recording;

@@ -3,6 +3,9 @@ ghost use mathlib.Core.Path.{_≡_};
 ghost use Rattle.recording.specs.Meaning.{Meaning, Sound};
 use scale::Scale;
 
+// No recording has more points.
+pub const MOST_POINTS: usize = 2048;
+
 pub trait Recording {
     type Mark: Scale;
 
