@@ -1,2 +1,1 @@
-mod Filing
 mod Words

@@ -2,6 +2,7 @@
 mod checks;
 mod faults;
 mod files;
+mod lent;
 mod recordings;
 mod records;
 
@@ -13,7 +14,11 @@ pub use faults::TapeFault;
 pub use faults::TapeFaultDebug;
 pub use faults::TapeFaultFromScale;
 pub use faults::TapeFaultPartialEq;
+pub use files::Filed;
 pub use files::FiledRecording;
 pub use files::FiledRecordingRecording;
+pub use lent::LentRecords;
+pub use lent::LentRecordsTimed;
+pub use lent::TimedRecords;
 pub use recordings::MOST_POINTS;
 pub use recordings::Recording;
