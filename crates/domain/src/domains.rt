@@ -1,6 +1,6 @@
 // Domains: adding a box, join and meet, up to the bound.
 ghost use mathlib.Core.Path.{_≡_};
-ghost use mathlib.Core.List.{[]};
+ghost use mathlib.Core.List.{[], _∷_};
 ghost use lib.ListN.{length};
 ghost use Rattle.std.specs.Vec.{made};
 ghost use Rattle.domain.specs.Boxes.{sidesOf};
@@ -49,6 +49,14 @@ impl<S: Scale> Domain<S> {
         for b in other.boxes.iter() {
             self.boxes.push_reserved(*b);
         }
+    }
+
+    // Becomes the one box given.
+    pub fn become_box(&mut self, b: Orthotope<S>)
+        ensures { λ _. ⌜ boxesOf (now (self .exit)) ≡ sidesOf b ∷ [] ⌝ }
+    {
+        self.boxes.clear();
+        self.boxes.push_reserved(b);
     }
 
     // Whether some box contains this one.
@@ -101,6 +109,14 @@ impl<S: Scale> Domain<S> {
             self.add(*b)?;
         }
         Ok(())
+    }
+
+    // Becomes the left boxes with each box of the right added, in order.
+    pub fn unite(&mut self, left: &Domain<S>, right: &Domain<S>) -> Result<(), Full>
+        ensures { λ r. ⌜ reached r (boxesOf (now (self .exit))) ≡ joined rank (boxesOf (now (left .entry))) (boxesOf (now (right .entry))) ⌝ }
+    {
+        self.copy_from(left);
+        self.join(right)
     }
 
     // Becomes the overlaps of each box of the left with each of the right, in order.

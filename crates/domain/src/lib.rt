@@ -1,10 +1,13 @@
 // Boxes of limits, and lists of them: the domain on which a rule is true.
+mod comparisons;
 mod domains;
 mod intervals;
+mod labels;
 mod lists;
 mod orthotopes;
 mod shapes;
 mod sides;
+mod steps;
 
 pub use lists::Domain;
 pub use lists::Full;

@@ -1,8 +1,11 @@
 // Boxes: containment and overlap, side by side.
 ghost use mathlib.Core.Path.{_≡_};
+ghost use lib.ListN.{set};
+ghost use Rattle.rule.specs.Parts.{limitIndex};
 ghost use Rattle.domain.specs.Boxes.{sidesOf, fullBox, emptyBox, containsBox, overlapBox};
 use crate::shapes::Orthotope;
 use crate::sides::Interval;
+use rule::LimitName;
 use scale::Scale;
 
 impl<S: Scale> Orthotope<S> {
@@ -15,6 +18,19 @@ impl<S: Scale> Orthotope<S> {
             q: Interval::full(),
             r: Interval::full(),
         }
+    }
+
+    // The box that bounds one limit and leaves the others free.
+    pub fn bounding(limit: LimitName, side: Interval<S>) -> Orthotope<S>
+        ensures { λ r. ⌜ sidesOf r ≡ set fullBox (limitIndex limit) side ⌝ }
+    {
+        let mut bounds = Orthotope::full();
+        match limit {
+            LimitName::P => bounds.p = side,
+            LimitName::Q => bounds.q = side,
+            LimitName::R => bounds.r = side,
+        }
+        bounds
     }
 
     // Whether some side is empty.
