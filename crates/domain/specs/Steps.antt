@@ -1,6 +1,7 @@
 -- How a part's list is made, by kind and sign. A turned part says the opposite of the part. Assumes nothing.
 use mathlib.Core.Bool.{Bool, true, false, cond}
 use Prim.Native.Nat.{ℕ, _+_, max}
+use lib.Dec.{eqb}
 use Rattle.rule.specs.Parts.{opposed}
 use Rattle.rule.specs.declared.parts.Comparator.{Comparator}
 use Rattle.rule.specs.declared.parts.Operand.the-variants.{Limit, Channel, Constant}
@@ -24,6 +25,15 @@ atLast (Eventually a) = a
 atLast (Always a) = a
 atLast (Until l r) = r
 atLast (WeakUntil l r) = l
+
+abbrev pub settled : {S : Type 0} → Step S → Step S
+settled (Bound limit side) = Bound limit side
+settled Everything = Everything
+settled Nothing = Nothing
+settled (Same a) = Same a
+settled (Join l r) = Join l r
+settled (Meet l r) = Meet l r
+settled (Later outlook) = Same (atLast outlook)
 
 -- how many lists of parts a step looks at, at least
 abbrev pub outlookSpan : Outlook → ℕ
@@ -60,3 +70,7 @@ module _ {S : Type 0} (rank : S → ℕ) (marks : ℕ → S) where
   -- the dual of until is weak until with its sides exchanged, and the other way round
   stepOf turned (Binary untilOp left right) = Later (cond turned (WeakUntil right left) (Until left right))
   stepOf turned (Binary weakOp left right) = Later (cond turned (Until right left) (WeakUntil left right))
+
+-- the step at a point of a recording with so many points; the last of them repeats for ever
+abbrev pub stepAt : {S : Type 0} → (S → ℕ) → (ℕ → ℕ → S) → ℕ → ℕ → Bool → Part S → Step S
+stepAt rank marks points point turned part = cond (eqb (point + 1) points) (settled (stepOf rank (marks point) turned part)) (stepOf rank (marks point) turned part)

@@ -7,6 +7,8 @@ mod lists;
 mod orthotopes;
 mod shapes;
 mod sides;
+mod signs;
+mod solvers;
 mod steps;
 
 pub use lists::Domain;
@@ -14,3 +16,7 @@ pub use lists::Full;
 pub use lists::MAX_BOXES;
 pub use shapes::Orthotope;
 pub use sides::Interval;
+pub use solvers::SolveFault;
+pub use solvers::SolveFaultDebug;
+pub use solvers::SolveFaultPartialEq;
+pub use solvers::Solver;

@@ -1,6 +1,6 @@
 // How a part's list at a point is made, once the part's sign is taken into account.
 ghost use mathlib.Core.Path.{_≡_};
-ghost use Rattle.domain.specs.Steps.{atLast, stepOf, underSign};
+ghost use Rattle.domain.specs.Steps.{atLast, settled, stepAt, stepOf, underSign};
 use crate::comparisons::bounded_by;
 use crate::comparisons::compares;
 use crate::sides::Interval;
@@ -12,6 +12,7 @@ use rule::LimitName;
 use rule::Operand;
 use rule::Part;
 use rule::UnaryOperator;
+use scale::Scale;
 
 // What a part says of this point alone. Numbers are those of lower parts, whose lists are joined or met.
 #[derive(Clone, Copy)]
@@ -49,6 +50,18 @@ impl Outlook {
             Outlook::Always(operand) => operand,
             Outlook::Until { right, .. } => right,
             Outlook::WeakUntil { left, .. } => left,
+        }
+    }
+}
+
+impl<S: Scale> Step<S> {
+    // The step at the last point, where what is to come is what is here.
+    pub fn at_last(self) -> Step<S>
+        ensures { λ r. ⌜ r ≡ settled self ⌝ }
+    {
+        match self {
+            Step::Later(outlook) => Step::Same(outlook.at_last()),
+            other => other,
         }
     }
 }
@@ -242,5 +255,22 @@ pub fn step_of<R: Recording>(
             left: right,
             right: left,
         }),
+    }
+}
+
+// The step at a point, which may be the last.
+pub fn step_at<R: Recording>(
+    recording: &R,
+    point: usize,
+    part: Part<R::Mark>,
+    turned: bool,
+) -> Step<R::Mark>
+    ensures { λ r. ⌜ r ≡ stepAt (Mark·Scale .rank) (meaning (now (recording .entry)) .mark) (meaning (now (recording .entry)) .points) point turned part ⌝ }
+{
+    let step = step_of(recording, point, part, turned);
+    if point.checked_add(1) == Some(recording.points()) {
+        step.at_last()
+    } else {
+        step
     }
 }

@@ -7,6 +7,7 @@ mod readers;
 pub use faults::TextFault;
 pub use faults::TextFaultFromScale;
 pub use formulas::Formula;
+pub use formulas::MAX_PARTS;
 pub use parts::BinaryOperator;
 pub use parts::Comparator;
 pub use parts::LimitName;
