@@ -1,0 +1,9 @@
+mod Compared
+mod Composed
+mod Drawing
+mod Ending
+mod Extends
+mod Names
+mod Numbering
+mod Passing
+mod Stretches

@@ -1,0 +1,10 @@
+pub mod Cursors
+pub mod Faults
+pub mod Formulas
+pub mod Operands
+pub mod Orders
+pub mod Parts
+pub mod Reads
+pub mod Runs
+pub mod Spellings
+pub mod Trees

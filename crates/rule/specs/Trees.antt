@@ -1,0 +1,54 @@
+-- Formulas as trees: their parts, their spelling and their depth. Assumes nothing.
+use mathlib.Core.List.{List, [], _∷_, _++_}
+use Prim.Native.Nat.{ℕ, _+_, _-_, max}
+use lib.Chars.{codes}
+use Rattle.rule.specs.declared.parts.Comparator.{Comparator}
+use Rattle.rule.specs.declared.parts.UnaryOperator.{UnaryOperator}
+use Rattle.rule.specs.declared.parts.BinaryOperator.{BinaryOperator}
+use Rattle.rule.specs.declared.parts.Operand.{Operand}
+use Rattle.rule.specs.declared.parts.Operand.the-variants.{Limit, Channel, Constant}
+use Rattle.rule.specs.declared.parts.Part.{Part}
+use Rattle.rule.specs.declared.parts.Part.the-variants.{Comparison, Unary, Binary}
+use Rattle.rule.specs.Spellings.{limitText, channelName, comparatorText, unaryText, binaryText}
+
+-- a comparison, or an operator over its operands; K is the kind of constants
+pub data Tree (K : Type 0) : Type 0 where
+  compares : ℕ → Comparator → Operand K → Tree K
+  one : UnaryOperator → Tree K → Tree K
+  two : BinaryOperator → Tree K → Tree K → Tree K
+
+module _ {K : Type 0} where
+  -- how many parts there are
+  abbrev pub size : Tree K → ℕ
+  size (compares _ _ _) = 1
+  size (one _ t) = size t + 1
+  size (two _ l r) = size l + size r + 1
+
+  -- the number of the last part, where the first has the number n
+  abbrev pub root : ℕ → Tree K → ℕ
+  root n t = n + size t - 1
+
+  -- the parts numbered from n on: left operand, right operand, then operator
+  abbrev pub numbered : ℕ → Tree K → List (Part K)
+  numbered n (compares channel comparator operand) = Comparison channel comparator operand ∷ []
+  numbered n (one op t) = numbered n t ++ Unary op (root n t) ∷ []
+  numbered n (two op l r) = numbered n l ++ (numbered (n + size l) r ++ Binary op (root n l) (root (n + size l) r) ∷ [])
+
+  -- how many brackets are open at once, at most
+  abbrev pub depth : Tree K → ℕ
+  depth (compares _ _ _) = 0
+  depth (one _ t) = depth t + 1
+  depth (two _ l r) = max (depth l) (depth r) + 1
+
+  module _ (constant : K → List ℕ) where
+    -- how an operand is written
+    abbrev pub operandText : Operand K → List ℕ
+    operandText (Limit l) = limitText l
+    operandText (Channel n) = channelName n
+    operandText (Constant k) = constant k
+
+    -- how a formula is written, each operand of an operator in brackets of its own
+    abbrev pub spelling : Tree K → List ℕ
+    spelling (compares channel comparator operand) = channelName channel ++ (comparatorText comparator ++ operandText operand)
+    spelling (one op t) = unaryText op ++ (codes "(" ++ (spelling t ++ codes ")"))
+    spelling (two op l r) = codes "(" ++ (spelling l ++ (codes ")" ++ (binaryText op ++ (codes "(" ++ (spelling r ++ codes ")")))))

@@ -1,0 +1,15 @@
+// Rules over a recording: the text of a rule, and the formula that it spells.
+mod faults;
+mod formulas;
+mod parts;
+mod readers;
+
+pub use faults::TextFault;
+pub use faults::TextFaultFromScale;
+pub use formulas::Formula;
+pub use parts::BinaryOperator;
+pub use parts::Comparator;
+pub use parts::LimitName;
+pub use parts::Operand;
+pub use parts::Part;
+pub use parts::UnaryOperator;
