@@ -29,8 +29,8 @@ pub enum RecordsFault {
 pub impl From<ScaleFault> for TapeFault as TapeFaultFromScale {
     ghost converts = { λ x r. r ≡ ofScale x };
 
-    fn from(fault: ScaleFault) -> TapeFault {
-        TapeFault::Scale(fault)
+    fn from(lower: ScaleFault) -> TapeFault {
+        TapeFault::Scale(lower)
     }
 }
 
