@@ -1,7 +1,8 @@
 // What recordings and tapes refuse, and the number of each refusal.
 ghost use mathlib.Core.Path.{_≡_};
-ghost use Rattle.recording.specs.Faults.{tapeNumber, recordsNumber};
+ghost use Rattle.recording.specs.Faults.{recordsLayer, recordsNumber, tapeLayer, tapeNumber};
 ghost use Rattle.recording.specs.declared.faults.TapeFault.the-variants.{Scale as ofScale};
+use scale::Layer;
 use scale::ScaleFault;
 use scale::ScaleFaultDebug;
 use scale::ScaleFaultPartialEq;
@@ -28,35 +29,54 @@ pub enum RecordsFault {
 pub impl From<ScaleFault> for TapeFault as TapeFaultFromScale {
     ghost converts = { λ x r. r ≡ ofScale x };
 
-    fn from(fault: ScaleFault) -> TapeFault {
-        TapeFault::Scale(fault)
+    fn from(lower: ScaleFault) -> TapeFault {
+        TapeFault::Scale(lower)
     }
 }
 
 impl TapeFault {
     // The number that stands for the fault outside the program.
-    pub fn number(&self) -> u32
-        ensures { λ r. ⌜ r ≡ tapeNumber (now (self .entry)) ⌝ }
+    pub fn number(self) -> u32
+        ensures { λ r. ⌜ r ≡ tapeNumber self ⌝ }
     {
         match self {
-            TapeFault::Scale(ScaleFault::Unread { .. }) => 5,
             TapeFault::NoChannel => 6,
-            TapeFault::Scale(ScaleFault::NoMark) => 7,
             TapeFault::NoPoint => 8,
             TapeFault::NotGiven => 9,
             TapeFault::Full => 10,
             TapeFault::TickNotLater => 11,
+            TapeFault::Scale(fault) => fault.number(),
+        }
+    }
+
+    // The layer that raised the fault.
+    pub fn layer(self) -> Layer
+        ensures { λ r. ⌜ r ≡ tapeLayer self ⌝ }
+    {
+        match self {
+            TapeFault::Scale(_) => Layer::Scale,
+            _ => Layer::Tape,
         }
     }
 }
 
 impl RecordsFault {
-    pub fn number(&self) -> u32
-        ensures { λ r. ⌜ r ≡ recordsNumber (now (self .entry)) ⌝ }
+    pub fn number(self) -> u32
+        ensures { λ r. ⌜ r ≡ recordsNumber self ⌝ }
     {
         match self {
             RecordsFault::Ragged => 15,
             RecordsFault::Record { fault, .. } => fault.number(),
+        }
+    }
+
+    // Ragged bytes are refused by the bench, before any record is looked at.
+    pub fn layer(self) -> Layer
+        ensures { λ r. ⌜ r ≡ recordsLayer self ⌝ }
+    {
+        match self {
+            RecordsFault::Ragged => Layer::Bench,
+            RecordsFault::Record { fault, .. } => fault.layer(),
         }
     }
 }

@@ -12,6 +12,7 @@ pub trait Recording {
     // What the recording tells.
     ghost meaning: { Self → Meaning Self·Mark };
 
+    // No value of the type tells anything else than a sound recording.
     law sound: { (s : Self) → Sound (Mark·Scale .resting) (meaning s) };
 
     fn points(&self) -> usize
