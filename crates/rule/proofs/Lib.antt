@@ -1,3 +1,4 @@
+mod Coded
 mod Compared
 mod Composed
 mod Drawing

@@ -1,3 +1,4 @@
+pub mod Codings
 pub mod Cursors
 pub mod Faults
 pub mod Formulas

@@ -1,4 +1,5 @@
 // Rules over a recording: the text of a rule, and the formula that it spells.
+mod codings;
 mod faults;
 mod formulas;
 mod parts;
