@@ -4,6 +4,7 @@ mod Composed
 mod Drawing
 mod Ending
 mod Extends
+mod Marking
 mod Names
 mod Numbering
 mod Passing

@@ -6,6 +6,7 @@ pub mod Operands
 pub mod Orders
 pub mod Parts
 pub mod Reads
+pub mod Rules
 pub mod Runs
 pub mod Spellings
 pub mod Trees

@@ -4,6 +4,7 @@ mod faults;
 mod formulas;
 mod parts;
 mod readers;
+mod rules;
 
 pub use faults::TextFault;
 pub use faults::TextFaultFromScale;
@@ -14,3 +15,4 @@ pub use parts::LimitName;
 pub use parts::Operand;
 pub use parts::Part;
 pub use parts::UnaryOperator;
+pub use rules::Rule;
