@@ -10,7 +10,7 @@ ghost use Rattle.scale.specs.Marks.{Apart, Names, RunText};
 ghost use Rattle.scale.specs.Cuts.{Picks};
 ghost use Rattle.scale.specs.Words.{bytesOf};
 use crate::cuts::Cut;
-use crate::words::Word;
+use crate::held::Word;
 
 pub trait Scale: Copy {
     // The place of a mark in the order.

@@ -1,0 +1,4 @@
+pub mod Added
+pub mod Boxes
+pub mod Listed
+pub mod Sides

@@ -1,0 +1,5 @@
+pub mod Faults
+pub mod Filed
+pub mod Files
+pub mod Meaning
+pub mod Records

@@ -1,0 +1,4 @@
+pub mod Leaning
+pub mod ReadingLaws
+pub mod Spelled
+pub mod StageLaws

@@ -1,0 +1,106 @@
+// The scale of readings.
+ghost use mathlib.Core.Path.{_≡_};
+ghost use lib.IntN.{pos};
+ghost use Rattle.std.specs.Options.{Cases};
+ghost use Rattle.scale.specs.Cuts.{Picks};
+ghost use Rattle.scale.specs.Numbered.{Leans};
+ghost use Rattle.scale.specs.Readings.{held, valueOf, readingRank, readingCode, readingNamed, readingText, readingPicked};
+use crate::cuts::Cut;
+use crate::held::Word;
+use crate::numbered::Numbered;
+use crate::numbered::Row;
+use crate::numbered::pick_number;
+use crate::scales::Scale;
+use crate::values::Reading;
+
+impl Reading {
+    pub fn new(value: i32) -> Reading
+        ensures { λ r. ⌜ valueOf r ≡ value ⌝ }
+    {
+        Reading { value }
+    }
+
+    pub fn value(self) -> i32
+        ensures { λ r. ⌜ r ≡ valueOf self ⌝ }
+    {
+        self.value
+    }
+}
+
+impl Numbered for Reading as ReadingNumbered {
+    ghost number = { valueOf };
+
+    fn to_number(self) -> i32 {
+        self.value
+    }
+}
+
+pub impl Scale for Reading as ReadingScale {
+    ghost rank = { readingRank };
+
+    ghost code = { readingCode };
+
+    ghost named = { readingNamed };
+
+    ghost text = { readingText };
+
+    ghost resting = { held (pos 0) };
+
+    ghost picked = { readingPicked };
+
+    fn is_before(self, other: Reading) -> bool {
+        self.value < other.value
+    }
+
+    fn to_code(self) -> u32 {
+        self.value.cast_unsigned()
+    }
+
+    fn of_code(number: u32) -> Option<Reading> {
+        Some(Reading::new(number.cast_signed()))
+    }
+
+    fn rest() -> Reading {
+        Reading::new(0)
+    }
+
+    fn to_text(self) -> Word {
+        let mut word = Word::decimal(self.value.unsigned_abs());
+        if self.value < 0 {
+            word.prepend(b'-');
+        }
+        word
+    }
+
+    // Only the text that is written of a number is read, so what is parsed is written again and compared.
+    fn of_text(run: &[u8]) -> Option<Reading> {
+        let Ok(digits) = std::str::from_utf8(run) else {
+            return None;
+        };
+        let Ok(value) = digits.parse::<i32>() else {
+            return None;
+        };
+        let mark = Reading::new(value);
+        let written = mark.to_text();
+        if written.as_bytes() == run {
+            Some(mark)
+        } else {
+            None
+        }
+    }
+
+    fn pick(lower: Cut<Reading>, upper: Cut<Reading>) -> Option<Reading>
+        ensures value { λ r. ⌜ r ≡ readingPicked lower upper ⌝ }
+        ensures leans { λ r. ⌜ Leans readingRank (held (pos 0)) lower upper r ⌝ }
+    {
+        let row = Row {
+            least: i32::MIN,
+            past: 2_147_483_648,
+            rest: 0,
+        };
+        match pick_number(lower, upper, row) {
+            Some(number) => Some(Reading::new(number as i32)),
+            None => None,
+        }
+    }
+}
