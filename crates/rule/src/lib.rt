@@ -7,7 +7,9 @@ mod readers;
 mod rules;
 
 pub use faults::TextFault;
+pub use faults::TextFaultDebug;
 pub use faults::TextFaultFromScale;
+pub use faults::TextFaultPartialEq;
 pub use formulas::Formula;
 pub use parts::BinaryOperator;
 pub use parts::Comparator;
