@@ -24,8 +24,8 @@ pub enum TextFault {
 pub impl From<ScaleFault> for TextFault as TextFaultFromScale {
     ghost converts = { λ fault out. out ≡ ofScale fault };
 
-    fn from(fault: ScaleFault) -> TextFault {
-        TextFault::Scale(fault)
+    fn from(refused: ScaleFault) -> TextFault {
+        TextFault::Scale(refused)
     }
 }
 
