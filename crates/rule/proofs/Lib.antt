@@ -1,8 +1,10 @@
+mod Coded
 mod Compared
 mod Composed
 mod Drawing
 mod Ending
 mod Extends
+mod Marking
 mod Names
 mod Numbering
 mod Passing

@@ -1,3 +1,4 @@
+pub mod Codings
 pub mod Cursors
 pub mod Faults
 pub mod Formulas
@@ -5,6 +6,7 @@ pub mod Operands
 pub mod Orders
 pub mod Parts
 pub mod Reads
+pub mod Rules
 pub mod Runs
 pub mod Spellings
 pub mod Trees

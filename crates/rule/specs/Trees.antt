@@ -52,3 +52,15 @@ module _ {K : Type 0} where
     spelling (compares channel comparator operand) = channelName channel ++ (comparatorText comparator ++ operandText operand)
     spelling (one op t) = unaryText op ++ (codes "(" ++ (spelling t ++ codes ")"))
     spelling (two op l r) = codes "(" ++ (spelling l ++ (codes ")" ++ (binaryText op ++ (codes "(" ++ (spelling r ++ codes ")")))))
+
+-- the same operand with another kind of constant
+abbrev pub mapOperand : {K L : Type 0} → (K → L) → Operand K → Operand L
+mapOperand f (Limit l) = Limit l
+mapOperand f (Channel n) = Channel n
+mapOperand f (Constant k) = Constant (f k)
+
+-- the same formula with another kind of constant
+abbrev pub mapTree : {K L : Type 0} → (K → L) → Tree K → Tree L
+mapTree f (compares channel comparator operand) = compares channel comparator (mapOperand f operand)
+mapTree f (one op t) = one op (mapTree f t)
+mapTree f (two op l r) = two op (mapTree f l) (mapTree f r)

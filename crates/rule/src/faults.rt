@@ -1,10 +1,13 @@
 // What is refused of a rule's text, and at which byte.
 ghost use mathlib.Core.Path.{_≡_};
-ghost use Rattle.rule.specs.declared.faults.TextFault.{TextFault};
-ghost use Rattle.rule.specs.Faults.{number, placed};
+ghost use Rattle.rule.specs.declared.faults.TextFault.the-variants.{Scale as ofScale};
+ghost use Rattle.rule.specs.Faults.{textLayer, textNumber, textPlace};
+use scale::Layer;
 use scale::ScaleFault;
+use scale::ScaleFaultDebug;
+use scale::ScaleFaultPartialEq;
 
-#[derive(Clone, Copy)]
+#[derive(Clone, Copy, PartialEq, Eq, Debug)]
 pub enum TextFault {
     // The text is empty or too long.
     Length,
@@ -18,37 +21,48 @@ pub enum TextFault {
     Scale(ScaleFault),
 }
 
+pub impl From<ScaleFault> for TextFault as TextFaultFromScale {
+    ghost converts = { λ fault out. out ≡ ofScale fault };
+
+    fn from(refused: ScaleFault) -> TextFault {
+        TextFault::Scale(refused)
+    }
+}
+
 impl TextFault {
-    pub fn number(&self) -> u32
-        ensures { λ r. ⌜ r ≡ number (now (self .entry)) ⌝ }
+    // The number that stands for the fault outside the program.
+    pub fn number(self) -> u32
+        ensures { λ r. ⌜ r ≡ textNumber self ⌝ }
     {
         match self {
             TextFault::Length => 1,
             TextFault::Form { .. } => 2,
             TextFault::Brackets { .. } => 3,
             TextFault::Parts { .. } => 4,
-            TextFault::Scale(ScaleFault::Unread { .. }) => 5,
-            TextFault::Scale(ScaleFault::NoMark) => 7,
+            TextFault::Scale(fault) => fault.number(),
         }
     }
 
-    pub fn place(&self) -> Option<usize>
-        ensures { λ r. ⌜ r ≡ placed (now (self .entry)) ⌝ }
+    // The byte that is blamed, counted from 0.
+    pub fn place(self) -> Option<usize>
+        ensures { λ r. ⌜ r ≡ textPlace self ⌝ }
     {
         match self {
             TextFault::Form { place }
             | TextFault::Brackets { place }
             | TextFault::Parts { place }
-            | TextFault::Scale(ScaleFault::Unread { place }) => Some(*place),
+            | TextFault::Scale(ScaleFault::Unread { place }) => Some(place),
             TextFault::Length | TextFault::Scale(ScaleFault::NoMark) => None,
         }
     }
-}
 
-pub impl From<ScaleFault> for TextFault as TextFaultFromScale {
-    ghost converts = { λ fault out. out ≡ TextFault.Scale fault };
-
-    fn from(fault: ScaleFault) -> TextFault {
-        TextFault::Scale(fault)
+    // The layer that raised the fault.
+    pub fn layer(self) -> Layer
+        ensures { λ r. ⌜ r ≡ textLayer self ⌝ }
+    {
+        match self {
+            TextFault::Scale(_) => Layer::Scale,
+            _ => Layer::Text,
+        }
     }
 }

@@ -1,11 +1,15 @@
 // Rules over a recording: the text of a rule, and the formula that it spells.
+mod codings;
 mod faults;
 mod formulas;
 mod parts;
 mod readers;
+mod rules;
 
 pub use faults::TextFault;
+pub use faults::TextFaultDebug;
 pub use faults::TextFaultFromScale;
+pub use faults::TextFaultPartialEq;
 pub use formulas::Formula;
 pub use formulas::MAX_PARTS;
 pub use parts::BinaryOperator;
@@ -14,3 +18,4 @@ pub use parts::LimitName;
 pub use parts::Operand;
 pub use parts::Part;
 pub use parts::UnaryOperator;
+pub use rules::Rule;

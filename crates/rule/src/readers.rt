@@ -7,6 +7,8 @@ mod comparisons;
 mod operators;
 mod wholes;
 
+pub use wholes::read_text;
+
 // The bytes of a text from `start` to before `end`.
 #[derive(Clone, Copy)]
 pub struct Run {

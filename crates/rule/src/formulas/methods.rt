@@ -53,7 +53,7 @@ impl<K: Copy> Formula<K> {
     pub fn push(&mut self, part: Part<K>) -> bool
         ensures { λ r. ⌜ When r (Fits part (partsOf (now (self .entry))) × (partsOf (now (self .exit)) ≡ partsOf (now (self .entry)) ++ part ∷ [])) ((Fits part (partsOf (now (self .entry))) → ⊥) × (partsOf (now (self .exit)) ≡ partsOf (now (self .entry)))) ⌝ }
     {
-        let number = self.parts.len();
+        let number = self.len();
         if number == MAX_PARTS || !part.comes_after(number) {
             return false;
         }
@@ -67,7 +67,7 @@ impl<K: Copy> Formula<K> {
         ensures items { λ _. ⌜ partsOf (now (self .exit)) ≡ partsOf (now (self .entry)) ++ part ∷ [] ⌝ }
         ensures value { λ r. ⌜ r ≡ length (partsOf (now (self .entry))) ⌝ }
     {
-        let number = self.parts.len();
+        let number = self.len();
         self.parts.push_reserved(part);
         number
     }
