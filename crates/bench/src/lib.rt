@@ -1,0 +1,9 @@
+// The bench: a rule and a recording brought together, solved, and told as a listing.
+mod faults;
+
+pub use faults::BenchFault;
+pub use faults::BenchFaultDebug;
+pub use faults::BenchFaultFromRecords;
+pub use faults::BenchFaultFromSolve;
+pub use faults::BenchFaultFromTape;
+pub use faults::BenchFaultPartialEq;
