@@ -1,10 +1,9 @@
 -- The number and the layer of each fault of a bench. Assumes nothing.
 use Prim.Native.Nat.{ℕ}
 use Rattle.scale.specs.declared.faults.Layer.{Layer}
-use Rattle.scale.specs.declared.faults.Layer.the-variants.{Text, Scale as scaleLayer, Tape as tapeLayer, Bench as benchOwn}
-use Rattle.recording.specs.Faults.{tapeNumber}
-use Rattle.recording.specs.declared.faults.TapeFault.{TapeFault}
-use Rattle.recording.specs.declared.faults.TapeFault.the-variants.{NoChannel, NoPoint, NotGiven, Full as tapeFull, TickNotLater, Scale}
+use Rattle.scale.specs.declared.faults.Layer.the-variants.{Bench as benchOwn}
+use Rattle.recording.specs.Faults.{tapeNumber, tapeLayer}
+use Rattle.recording.specs.declared.faults.TapeFault.the-variants.{NoPoint}
 use Rattle.recording.specs.declared.faults.RecordsFault.{RecordsFault}
 use Rattle.recording.specs.declared.faults.RecordsFault.the-variants.{Ragged as raggedRecords, Record as oneRecord}
 use Rattle.domain.specs.declared.solvers.SolveFault.{SolveFault}
@@ -22,19 +21,11 @@ benchNumber (Full _ _) = 14
 benchNumber Ragged = 15
 benchNumber (Room _) = 16
 
--- a scale's fault keeps its layer, however far up it is carried
-abbrev pub tapeLayerOf : TapeFault → Layer
-tapeLayerOf NoChannel = tapeLayer
-tapeLayerOf NoPoint = tapeLayer
-tapeLayerOf NotGiven = tapeLayer
-tapeLayerOf tapeFull = tapeLayer
-tapeLayerOf TickNotLater = tapeLayer
-tapeLayerOf (Scale _) = scaleLayer
-
+-- a lower fault keeps its layer, however far up it is carried
 abbrev pub benchLayer : BenchFault → Layer
-benchLayer (Tape fault) = tapeLayerOf fault
-benchLayer (Record _ fault) = tapeLayerOf fault
-benchLayer (Part _ fault) = tapeLayerOf fault
+benchLayer (Tape fault) = tapeLayer fault
+benchLayer (Record _ fault) = tapeLayer fault
+benchLayer (Part _ fault) = tapeLayer fault
 benchLayer NoRule = benchOwn
 benchLayer Unsolved = benchOwn
 benchLayer (Full _ _) = benchOwn

@@ -80,10 +80,9 @@ impl BenchFault {
         ensures { λ r. ⌜ r ≡ benchLayer self ⌝ }
     {
         match self {
-            BenchFault::Tape(TapeFault::Scale(_)) => Layer::Scale,
-            BenchFault::Record { fault: TapeFault::Scale(_), .. } => Layer::Scale,
-            BenchFault::Part { fault: TapeFault::Scale(_), .. } => Layer::Scale,
-            BenchFault::Tape(_) | BenchFault::Record { .. } | BenchFault::Part { .. } => Layer::Tape,
+            BenchFault::Tape(fault) => fault.layer(),
+            BenchFault::Record { fault, .. } => fault.layer(),
+            BenchFault::Part { fault, .. } => fault.layer(),
             _ => Layer::Bench,
         }
     }

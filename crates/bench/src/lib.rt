@@ -1,6 +1,11 @@
 // The bench: a rule and a recording brought together, solved, and told as a listing.
+mod benches;
+mod calls;
 mod faults;
+mod listings;
+mod settings;
 
+pub use benches::Bench;
 pub use faults::BenchFault;
 pub use faults::BenchFaultDebug;
 pub use faults::BenchFaultFromRecords;

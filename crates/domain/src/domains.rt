@@ -1,6 +1,7 @@
 // Domains: adding a box, join and meet, up to the bound.
 ghost use mathlib.Core.Path.{_≡_};
 ghost use mathlib.Core.List.{[], _∷_};
+ghost use Prim.Native.Nat.{_≤_};
 ghost use lib.ListN.{length};
 ghost use Rattle.std.specs.Vec.{made};
 ghost use Rattle.domain.specs.Boxes.{sidesOf};
@@ -24,7 +25,8 @@ impl<S: Scale> Domain<S> {
     }
 
     pub fn len(&self) -> usize
-        ensures { λ r. ⌜ r ≡ length (boxesOf (now (self .entry))) ⌝ }
+        ensures value { λ r. ⌜ r ≡ length (boxesOf (now (self .entry))) ⌝ }
+        ensures bound { λ r. ⌜ r ≤ 32 ⌝ }
     {
         self.boxes.len()
     }

@@ -1,0 +1,82 @@
+// The calls of a bench.
+ghost use mathlib.Core.Path.{_≡_};
+ghost use Prim.Native.Nat.{_≤_};
+ghost use lib.ListN.{length};
+ghost use Rattle.std.specs.Vec.{made, refused};
+use crate::benches::Bench;
+use crate::faults::BenchFault;
+use crate::faults::BenchFaultFromSolve;
+use crate::listings::listing_len;
+use crate::listings::put_listing;
+use crate::settings::fit_part;
+use domain::Domain;
+use domain::Solver;
+use recording::Recording;
+use rule::Formula;
+use rule::Rule;
+use std::alloc::AllocError;
+use std::alloc::Global;
+
+impl<R: Recording> Bench<R> {
+    // A bench with no rule, unsolved.
+    pub fn new(heap: Global, recording: R) -> Result<Bench<R>, AllocError>
+    where
+        R: Drop,
+    {
+        let formula = Formula::new(heap)?;
+        let fresh = Formula::new(heap)?;
+        let solver = Solver::new(heap)?;
+        let standing = Domain::new(heap)?;
+        Ok(Bench {
+            recording,
+            formula,
+            fresh,
+            solver,
+            standing,
+            solved: None,
+        })
+    }
+
+    // Takes a rule over. Each part is checked; a refused rule leaves the one before in force.
+    pub fn set(&mut self, rule: Rule) -> Result<(), BenchFault> {
+        if rule.is_blank() {
+            return Err(BenchFault::NoRule);
+        }
+        self.fresh.clear();
+        let channels = self.recording.channels();
+        for (part, coded) in rule.formula().parts().iter().enumerate() {
+            match fit_part(*coded, channels) {
+                Ok(fitted) => {
+                    self.fresh.push(fitted);
+                }
+                Err(fault) => return Err(BenchFault::Part { part, fault }),
+            }
+        }
+        std::mem::swap(&mut self.formula, &mut self.fresh);
+        self.solved = None;
+        Ok(())
+    }
+
+    // Solves the rule at a point, and answers how many boxes there are.
+    pub fn solve(&mut self, point: usize) -> Result<usize, BenchFault> {
+        let count = self.solver.solve(&self.recording, &self.formula, point, &mut self.standing)?;
+        self.solved = Some(point);
+        Ok(count)
+    }
+
+    // Writes the listing of the solve that stands to the front of the output, and answers its length.
+    pub fn print(&self, output: &mut [u8]) -> Result<usize, BenchFault>
+        ensures bound { λ r. ⌜ made r (λ n. n ≤ length (now (output .entry))) ⌝ }
+        ensures refused { λ r. ⌜ refused r (λ _. now (output .exit) ≡ now (output .entry)) ⌝ }
+    {
+        if self.solved.is_none() {
+            return Err(BenchFault::Unsolved);
+        }
+        let needed = listing_len(&self.standing);
+        if output.len() < needed {
+            return Err(BenchFault::Room { needed });
+        }
+        put_listing(output, &self.standing);
+        Ok(needed)
+    }
+}

@@ -1,0 +1,46 @@
+// Rules set on a bench: each part is held against the recording's channels and scale.
+ghost use mathlib.Core.Path.{_≡_};
+use recording::TapeFault;
+use recording::TapeFaultFromScale;
+use rule::Operand;
+use rule::Part;
+use scale::Scale;
+use scale::ScaleFault;
+
+// A channel that the recording has.
+fn known_channel(channel: usize, channels: usize) -> Result<usize, TapeFault> {
+    if channel < channels {
+        Ok(channel)
+    } else {
+        Err(TapeFault::NoChannel)
+    }
+}
+
+// The mark of a code.
+fn named_mark<S: Scale>(code: u32) -> Result<S, ScaleFault> {
+    match S::of_code(code) {
+        Some(mark) => Ok(mark),
+        None => Err(ScaleFault::NoMark),
+    }
+}
+
+fn fit_operand<S: Scale>(operand: Operand<u32>, channels: usize) -> Result<Operand<S>, TapeFault> {
+    match operand {
+        Operand::Limit(limit) => Ok(Operand::Limit(limit)),
+        Operand::Channel(channel) => Ok(Operand::Channel(known_channel(channel, channels)?)),
+        Operand::Constant(code) => Ok(Operand::Constant(named_mark(code)?)),
+    }
+}
+
+// The part with marks in place of codes.
+pub fn fit_part<S: Scale>(part: Part<u32>, channels: usize) -> Result<Part<S>, TapeFault> {
+    match part {
+        Part::Comparison { channel, comparator, operand } => {
+            let channel = known_channel(channel, channels)?;
+            let operand = fit_operand(operand, channels)?;
+            Ok(Part::Comparison { channel, comparator, operand })
+        }
+        Part::Unary { operator, operand } => Ok(Part::Unary { operator, operand }),
+        Part::Binary { operator, left, right } => Ok(Part::Binary { operator, left, right }),
+    }
+}
