@@ -59,7 +59,8 @@ impl<R: Recording> Bench<R> {
 
     // Solves the rule at a point, and answers how many boxes there are.
     pub fn solve(&mut self, point: usize) -> Result<usize, BenchFault> {
-        let count = self.solver.solve(&self.recording, &self.formula, point, &mut self.standing)?;
+        let count = self.solver
+            .solve(&self.recording, &self.formula, point, &mut self.standing)?;
         self.solved = Some(point);
         Ok(count)
     }

@@ -3,6 +3,7 @@ mod benches;
 mod calls;
 mod faults;
 mod listings;
+mod outputs;
 mod settings;
 
 pub use benches::Bench;
@@ -12,3 +13,4 @@ pub use faults::BenchFaultFromRecords;
 pub use faults::BenchFaultFromSolve;
 pub use faults::BenchFaultFromTape;
 pub use faults::BenchFaultPartialEq;
+pub use outputs::put;

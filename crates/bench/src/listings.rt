@@ -1,8 +1,5 @@
 // The listing of a domain: `boxes N`, then a line for each box.
-ghost use mathlib.Core.Path.{_≡_};
-ghost use Prim.Native.Nat.{_+_, _-_, _^_, min};
-ghost use lib.ListN.{length};
-ghost use Rattle.bench.specs.Written.{Written};
+use crate::outputs::put;
 use domain::Domain;
 use domain::Interval;
 use domain::Orthotope;
@@ -10,20 +7,15 @@ use scale::Cut;
 use scale::Scale;
 use scale::Word;
 
-// Writes bytes from a place on, where there is room for all of them, and answers where they end.
-fn put(out: &mut [u8], at: usize, bytes: &[u8]) -> usize
-    ensures end { λ r. ⌜ r ≡ min (at + length (now (bytes .entry))) (2 ^ 64 - 1) ⌝ }
-    ensures written { λ _. ⌜ Written (now (out .entry)) at (now (bytes .entry)) (now (out .exit)) ⌝ }
-{
-    let end = at.saturating_add(bytes.len());
-    if end <= out.len() {
-        out[at..end].copy_from_slice(bytes);
-    }
-    end
-}
-
 // One comparison, behind a comma unless it is the first of its line.
-fn put_comparison<S: Scale>(out: &mut [u8], line: usize, at: usize, name: &[u8], sign: &[u8], mark: S) -> usize {
+fn put_comparison<S: Scale>(
+    out: &mut [u8],
+    line: usize,
+    at: usize,
+    name: &[u8],
+    sign: &[u8],
+    mark: S,
+) -> usize {
     let mut end = at;
     if end > line {
         end = put(out, end, b",");
@@ -51,7 +43,13 @@ fn put_upper<S: Scale>(out: &mut [u8], line: usize, at: usize, name: &[u8], cut:
 }
 
 // What one limit may be: nothing, one comparison or two.
-fn put_side<S: Scale>(out: &mut [u8], line: usize, at: usize, name: &[u8], side: Interval<S>) -> usize {
+fn put_side<S: Scale>(
+    out: &mut [u8],
+    line: usize,
+    at: usize,
+    name: &[u8],
+    side: Interval<S>,
+) -> usize {
     let end = put_lower(out, line, at, name, side.lower);
     put_upper(out, line, end, name, side.upper)
 }

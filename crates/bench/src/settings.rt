@@ -35,12 +35,28 @@ fn fit_operand<S: Scale>(operand: Operand<u32>, channels: usize) -> Result<Opera
 // The part with marks in place of codes.
 pub fn fit_part<S: Scale>(part: Part<u32>, channels: usize) -> Result<Part<S>, TapeFault> {
     match part {
-        Part::Comparison { channel, comparator, operand } => {
+        Part::Comparison {
+            channel,
+            comparator,
+            operand,
+        } => {
             let channel = known_channel(channel, channels)?;
             let operand = fit_operand(operand, channels)?;
-            Ok(Part::Comparison { channel, comparator, operand })
+            Ok(Part::Comparison {
+                channel,
+                comparator,
+                operand,
+            })
         }
         Part::Unary { operator, operand } => Ok(Part::Unary { operator, operand }),
-        Part::Binary { operator, left, right } => Ok(Part::Binary { operator, left, right }),
+        Part::Binary {
+            operator,
+            left,
+            right,
+        } => Ok(Part::Binary {
+            operator,
+            left,
+            right,
+        }),
     }
 }

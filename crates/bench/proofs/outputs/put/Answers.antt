@@ -5,7 +5,7 @@ use native.Mathlib.Omega.{arith}
 use lib.ListN.{length, take, drop}
 use borrow.Author.Needs.{needs}
 use Rattle.std.proofs.shelf.Lists.{drop-drop}
-use Rattle.bench.proofs.listings.put.Needs as need
+use Rattle.bench.proofs.outputs.put.Needs as need
 
 pub returns-then-end-out : need.returns-then-end-out
 returns-then-end-out c =
