@@ -20,7 +20,7 @@ impl Reading {
         Reading { value }
     }
 
-    pub fn value(self) -> i32
+    pub fn to_i32(self) -> i32
         ensures { λ r. ⌜ r ≡ valueOf self ⌝ }
     {
         self.value
@@ -31,7 +31,7 @@ impl Numbered for Reading as ReadingNumbered {
     ghost number = { valueOf };
 
     fn to_number(self) -> i32 {
-        self.value
+        self.to_i32()
     }
 }
 
@@ -49,11 +49,11 @@ pub impl Scale for Reading as ReadingScale {
     ghost picked = { readingPicked };
 
     fn is_before(self, other: Reading) -> bool {
-        self.value < other.value
+        self.to_i32() < other.to_i32()
     }
 
     fn to_code(self) -> u32 {
-        self.value.cast_unsigned()
+        self.to_i32().cast_unsigned()
     }
 
     fn of_code(number: u32) -> Option<Reading> {
@@ -65,8 +65,8 @@ pub impl Scale for Reading as ReadingScale {
     }
 
     fn to_text(self) -> Word {
-        let mut word = Word::decimal(self.value.unsigned_abs());
-        if self.value < 0 {
+        let mut word = Word::decimal(self.to_i32().unsigned_abs());
+        if self.to_i32() < 0 {
             word.prepend(b'-');
         }
         word

@@ -23,13 +23,7 @@ impl Numbered for Stage as StageNumbered {
     ghost number = { stageNumber };
 
     fn to_number(self) -> i32 {
-        match self {
-            Stage::Off => 0,
-            Stage::Leaving => 1,
-            Stage::Travel => 2,
-            Stage::Arriving => 3,
-            Stage::On => 4,
-        }
+        self as i32
     }
 }
 
@@ -64,13 +58,7 @@ pub impl Scale for Stage as StageScale {
     }
 
     fn to_code(self) -> u32 {
-        match self {
-            Stage::Off => 0,
-            Stage::Leaving => 1,
-            Stage::Travel => 2,
-            Stage::Arriving => 3,
-            Stage::On => 4,
-        }
+        self as u32
     }
 
     fn of_code(number: u32) -> Option<Stage> {
@@ -85,7 +73,7 @@ pub impl Scale for Stage as StageScale {
     }
 
     fn rest() -> Stage {
-        Stage::Off
+        Self::Off
     }
 
     fn to_text(self) -> Word {
