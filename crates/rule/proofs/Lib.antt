@@ -7,5 +7,7 @@ mod Extends
 mod Marking
 mod Names
 mod Numbering
+mod Once
 mod Passing
 mod Stretches
+mod Words
