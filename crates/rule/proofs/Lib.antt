@@ -9,5 +9,6 @@ mod Names
 mod Numbering
 mod Once
 mod Passing
+mod Refused
 mod Stretches
 mod Words

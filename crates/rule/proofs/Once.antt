@@ -40,7 +40,7 @@ flat-two op l r y =
     ap (λ (x : List ℕ). 40 ∷ x)
     (append-assoc (spelledOut l) (41 ∷ (binaryText op ++ back)) y
     ∙ ap (λ (x : List ℕ). spelledOut l ++ (41 ∷ x))
-      (append-assoc (binaryText op) back y ∙ ap (λ (x : List ℕ). binaryText op ++ (40 ∷ x)) (append-assoc (spelledOut r) (41 ∷ []) y)))
+    (append-assoc (binaryText op) back y ∙ ap (λ (x : List ℕ). binaryText op ++ (40 ∷ x)) (append-assoc (spelledOut r) (41 ∷ []) y)))
 
 -- a comparator begins with `<` or `>`
 pub sign : (v : Comparator) (w : List ℕ) → (b : ℕ) × (u : List ℕ) × (comparatorText v ++ w ≡ b ∷ u) × (60 ≤ b)
@@ -85,24 +85,25 @@ comparison-once c d v v′ o o′ y z low low′ p p′ s s′ e =
     let a = sign v (written o ++ y) in
     let a′ = sign v′ (written o′ ++ z) in
     let numbers = channel-once c d (a .0) (a′ .0) (a .1) (a′ .1) low low′ (a .3) (a′ .3)
-            (ap (λ (l : List ℕ). decimal c ++ l) (sym (a .2)) ∙ (e ∙ ap (λ (l : List ℕ). decimal d ++ l) (a′ .2))) in
+    (ap (λ (l : List ℕ). decimal c ++ l) (sym (a .2)) ∙ (e ∙ ap (λ (l : List ℕ). decimal d ++ l) (a′ .2))) in
     let b = begins o p in
     let b′ = begins o′ p′ in
     let open-o : written o ++ y ≡ b .0 ∷ (b .1 ++ y) = ap (λ (l : List ℕ). l ++ y) (b .2) in
     let open-o′ : written o′ ++ z ≡ b′ .0 ∷ (b′ .1 ++ z) = ap (λ (l : List ℕ). l ++ z) (b′ .2) in
     let signs = comparator-once v v′ (b .0) (b′ .0) (b .1 ++ y) (b′ .1 ++ z) (b .3) (b′ .3)
-            (ap (λ (l : List ℕ). comparatorText v ++ l) (sym open-o)
-            ∙ ((a .2 ∙ (numbers .1 ∙ sym (a′ .2))) ∙ ap (λ (l : List ℕ). comparatorText v′ ++ l) open-o′)) in
+    (ap (λ (l : List ℕ). comparatorText v ++ l) (sym open-o)
+    ∙ ((a .2 ∙ (numbers .1 ∙ sym (a′ .2))) ∙ ap (λ (l : List ℕ). comparatorText v′ ++ l) open-o′)) in
     let runs = run-once (written o) (written o′) y z (runny o p) (runny o′ p′) s s′ (open-o ∙ (signs .1 ∙ sym open-o′)) in
     (numbers .0, signs .0, operand-once o o′ p p′ (runs .0), runs .1)
 
 pub once : (t u : Tree (List ℕ)) (y z : List ℕ) → ProperTree t → ProperTree u → Ends t y → Ends u z → spelledOut t ++ y ≡ spelledOut u ++ z → (t ≡ u) × (y ≡ z)
 once (compares c v o) (compares d v′ o′) y z p q s s′ e =
     let f = sym (flat-comparison c v o y) ∙ (e ∙ flat-comparison d v′ o′ z) in
-    let all = comparison-once c d v v′ o o′ y z (p .0) (q .0) (p .1) (q .1) s s′ (ap others f) in
-    (ap (λ (x : ℕ). compares x v o) (all .0)
-     ∙ (ap (λ (x : Comparator). compares d x o) (all .1) ∙ ap (λ (x : Operand (List ℕ)). compares d v′ x) (all .2))
-    , all .3)
+    let all = comparison-once c d v v′ o o′ y z (p .0) (q .0) (p .1) (q .1) s s′ (ap others f) in (
+      ap (λ (x : ℕ). compares x v o) (all .0)
+          ∙ (ap (λ (x : Comparator). compares d x o) (all .1) ∙ ap (λ (x : Operand (List ℕ)). compares d v′ x) (all .2)),
+      all .3,
+    )
 once (compares c v o) (one op u) y z p q s s′ e =
     absurd (unary-apart op 99 _ _ (sym (sym (flat-comparison c v o y) ∙ (e ∙ flat-one op u z))) .0 refl)
 once (compares c v o) (two op l r) y z p q s s′ e =
@@ -123,7 +124,8 @@ once (two op l r) (two op′ l′ r′) y z p q s s′ e =
     let f = ap others (sym (flat-two op l r y) ∙ (e ∙ flat-two op′ l′ r′ z)) in
     let left = once l l′ _ _ (p .0) (q .0) (ends-close l _) (ends-close l′ _) f in
     let words = binary-once op op′ _ _ (ap others (left .1)) in
-    let right = once r r′ (41 ∷ y) (41 ∷ z) (p .1) (q .1) (ends-close r y) (ends-close r′ z) (ap others (words .1)) in
-    (ap (λ (x : BinaryOperator). two x l r) (words .0)
-     ∙ (ap (λ (x : Tree (List ℕ)). two op′ x r) (left .0) ∙ ap (λ (x : Tree (List ℕ)). two op′ l′ x) (right .0))
-    , ap others (right .1))
+    let right = once r r′ (41 ∷ y) (41 ∷ z) (p .1) (q .1) (ends-close r y) (ends-close r′ z) (ap others (words .1)) in (
+      ap (λ (x : BinaryOperator). two x l r) (words .0)
+          ∙ (ap (λ (x : Tree (List ℕ)). two op′ x r) (left .0) ∙ ap (λ (x : Tree (List ℕ)). two op′ l′ x) (right .0)),
+      ap others (right .1),
+    )

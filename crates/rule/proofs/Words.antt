@@ -51,23 +51,23 @@ pub channel-once : (n m b d : ℕ) (u w : List ℕ) → n < 16 → m < 16 → 60
 channel-once n m b d u w p q h k e =
     ⊎-elim
     (λ x.
-        ⊎-elim
-        (λ y.
-            let f : (48 + n) ∷ (b ∷ u) ≡ (48 + m) ∷ (d ∷ w) = ap (λ (l : List ℕ). l ++ (b ∷ u)) (sym (x .1)) ∙ (e ∙ ap (λ (l : List ℕ). l ++ (d ∷ w)) (y .1)) in
-            (omega (arith, ap first f), ap others f))
-        (λ y.
-            let f : (48 + n) ∷ (b ∷ u) ≡ 49 ∷ (38 + m) ∷ (d ∷ w) = ap (λ (l : List ℕ). l ++ (b ∷ u)) (sym (x .1)) ∙ (e ∙ ap (λ (l : List ℕ). l ++ (d ∷ w)) (y .1)) in
-            absurd (omega (arith, ap (λ (l : List ℕ). first (others l)) f, q)))
-        (digits m q))
+    ⊎-elim
+    (λ y.
+    let f : (48 + n) ∷ (b ∷ u) ≡ (48 + m) ∷ (d ∷ w) = ap (λ (l : List ℕ). l ++ (b ∷ u)) (sym (x .1)) ∙ (e ∙ ap (λ (l : List ℕ). l ++ (d ∷ w)) (y .1)) in
+    (omega (arith, ap first f), ap others f))
+    (λ y.
+    let f : (48 + n) ∷ (b ∷ u) ≡ 49 ∷ (38 + m) ∷ (d ∷ w) = ap (λ (l : List ℕ). l ++ (b ∷ u)) (sym (x .1)) ∙ (e ∙ ap (λ (l : List ℕ). l ++ (d ∷ w)) (y .1)) in
+    absurd (omega (arith, ap (λ (l : List ℕ). first (others l)) f, q)))
+    (digits m q))
     (λ x.
-        ⊎-elim
-        (λ y.
-            let f : 49 ∷ (38 + n) ∷ (b ∷ u) ≡ (48 + m) ∷ (d ∷ w) = ap (λ (l : List ℕ). l ++ (b ∷ u)) (sym (x .1)) ∙ (e ∙ ap (λ (l : List ℕ). l ++ (d ∷ w)) (y .1)) in
-            absurd (omega (arith, ap (λ (l : List ℕ). first (others l)) f, p)))
-        (λ y.
-            let f : 49 ∷ (38 + n) ∷ (b ∷ u) ≡ 49 ∷ (38 + m) ∷ (d ∷ w) = ap (λ (l : List ℕ). l ++ (b ∷ u)) (sym (x .1)) ∙ (e ∙ ap (λ (l : List ℕ). l ++ (d ∷ w)) (y .1)) in
-            (omega (arith, ap (λ (l : List ℕ). first (others l)) f), ap (λ (l : List ℕ). others (others l)) f))
-        (digits m q))
+    ⊎-elim
+    (λ y.
+    let f : 49 ∷ (38 + n) ∷ (b ∷ u) ≡ (48 + m) ∷ (d ∷ w) = ap (λ (l : List ℕ). l ++ (b ∷ u)) (sym (x .1)) ∙ (e ∙ ap (λ (l : List ℕ). l ++ (d ∷ w)) (y .1)) in
+    absurd (omega (arith, ap (λ (l : List ℕ). first (others l)) f, p)))
+    (λ y.
+    let f : 49 ∷ (38 + n) ∷ (b ∷ u) ≡ 49 ∷ (38 + m) ∷ (d ∷ w) = ap (λ (l : List ℕ). l ++ (b ∷ u)) (sym (x .1)) ∙ (e ∙ ap (λ (l : List ℕ). l ++ (d ∷ w)) (y .1)) in
+    (omega (arith, ap (λ (l : List ℕ). first (others l)) f), ap (λ (l : List ℕ). others (others l)) f))
+    (digits m q))
     (digits n p)
 
 equals-no-run : (b : ℕ) → RunByte b → b ≡ 61 → ⊥

@@ -18,6 +18,7 @@ returns c =
     let stands = subst (λ (t : List ℕ). Stands t (c .in-Continue-operand .operand)) text (operand .0) in
     record {
       drawn = drawn-more _ _ _ _ (c .append .ensures .items) stands;
+      blames = tt;
       read =
           compared _ _ _ _ _ _ _ _ _ _ _ _ met (c .pass .ensures) (name .0) (name .1) (sign .0) (operand .0) (operand .1) (operand .2) (c .append .ensures .items) (c .append .ensures .value);
     }

@@ -37,6 +37,7 @@ returns-in-Some-unary-operator t c =
     enter .0 .same ∙ (c .pass .ensures .same ∙ ap (λ (x : RefT (List ℕ)). x .now) (met .same)) in
     record {
       drawn = λ all. drawn-more _ _ _ _ (c .append .ensures .items) tt (drawn-in _ _ _ _ text (operand .drawn) all);
+      blames = tt;
       read =
           unary-read _ _ _ _ _ _ _ _ _ _ _ _ _ _ met (c .pass .ensures) (c .in-Some-unary-operator .ensures tt) (enter .0) (enter .1) (operand .read) (c .in-Continue-expect .ensures tt .1) (c .append .ensures .items) (c .append .ensures .value);
     }
@@ -94,6 +95,7 @@ returns t c =
           λ all.
           drawn-more _ _ _ _ (c .append-2 .ensures .items) tt
           (drawn-in _ _ _ _ text (right .drawn) (drawn-in _ _ _ _ (enter .0 .same) (left .drawn) all));
+      blames = tt;
       read =
           binary-read _ _ _ _ _ _ _ _ _ _ _ _ _ _ _ _ _ (enter .0) (enter .1) (left .read) close operator again (right .read) (c .in-Continue-expect-3 .ensures tt .1) (c .append-2 .ensures .items) (c .append-2 .ensures .value);
     }
