@@ -4,10 +4,12 @@ mod Composed
 mod Drawing
 mod Ending
 mod Extends
+mod Fronts
 mod Marking
 mod Names
 mod Numbering
 mod Once
+mod Only
 mod Passing
 mod Refused
 mod Stretches

@@ -17,7 +17,7 @@ use Rattle.rule.specs.declared.parts.BinaryOperator.{BinaryOperator}
 use Rattle.rule.specs.declared.parts.BinaryOperator.the-variants.{Until, WeakUntil, And, Or, Implies}
 use Rattle.rule.specs.declared.parts.Operand.{Operand}
 use Rattle.rule.specs.declared.parts.Operand.the-variants.{Limit, Channel, Constant}
-use Rattle.rule.specs.Fronts.{Runny, Stops, Proper}
+use Rattle.rule.proofs.Fronts.{Runny, Stops, Proper}
 use Rattle.rule.specs.Spellings.{decimal, channelName, limitText, comparatorText, unaryText, binaryText}
 use Rattle.rule.specs.Trees.{operandText}
 

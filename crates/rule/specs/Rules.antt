@@ -51,6 +51,11 @@ module _ {S : Type 0} (code : S → ℕ) (written : S → List ℕ) where
     pub few : size formula ≤ 24
     pub listed : parts ≡ numbered 0 (mapTree code formula)
 
+  -- the text says a formula with these parts, and none with others
+  pub record SaysOnly (text : List ℕ) (parts : List (Part ℕ)) : Type 0 where
+    pub says : Says text parts
+    pub only : (others : List (Part ℕ)) → Says text others → others ≡ parts
+
   -- a run of the text that names no limit and no channel, and that no mark is written as
   pub record UnreadRun (text : List ℕ) (fault : ScaleFault) : Type 0 where
     pub run : Run

@@ -4,6 +4,7 @@ use Rattle.rule.specs.declared.faults.TextFault.{TextFault}
 use Rattle.rule.specs.Formulas.{partsOf}
 use Rattle.rule.specs.Rules.{Refuses}
 use Rattle.rule.proofs.Marking.{says}
+use Rattle.rule.proofs.Only.{says-only}
 use Rattle.rule.proofs.Refused.{known-refused, told, unread-run}
 use Rattle.rule.proofs.rules.Rule.prepare.Needs as need
 
@@ -28,5 +29,5 @@ returns g c =
       same = refl;
       cases =
           told (g .S·Scale .code) (g .S·Scale .text) text (c .read-text-form .result) _ _ (c .pre) (c .read-text-form .ensures .read) (c .read-text-form .ensures .blames)
-          (λ spelt. says (g .S·Scale .code) (g .S·Scale .text) text draft (partsOf (c .code-parts .last .fresh)) (c .pre .some) (c .pre .short) spelt coded);
+          (λ spelt. says-only (g .S·Scale .code) (g .S·Scale .text) (g .S·Scale·met .«texts_run») (g .S·Scale·met .«texts_apart») text _ (says (g .S·Scale .code) (g .S·Scale .text) text draft (partsOf (c .code-parts .last .fresh)) (c .pre .some) (c .pre .short) spelt coded));
     }
