@@ -4,8 +4,8 @@ mod Composed
 mod Drawing
 mod Ending
 mod Extends
-mod Fronts
 mod Marking
+mod Missing
 mod Names
 mod Numbering
 mod Once

@@ -14,7 +14,7 @@ use Rattle.rule.specs.declared.parts.LimitName.the-variants.{P, Q, R}
 use Rattle.rule.specs.declared.parts.Operand.{Operand}
 use Rattle.rule.specs.declared.parts.Operand.the-variants.{Limit, Channel, Constant}
 use Rattle.rule.specs.declared.parts.UnaryOperator.{UnaryOperator}
-use Rattle.rule.proofs.Fronts.{Ends, Proper, ProperTree, Runny, spelledOut, Stops}
+use Rattle.rule.specs.Fronts.{Ends, Proper, ProperTree, Runny, spelledOut, Stops}
 use Rattle.rule.specs.Spellings.{binaryText, channelName, comparatorText, decimal, unaryText}
 use Rattle.rule.specs.Trees.{Tree, compares, one, two, operandText}
 use Rattle.rule.proofs.Words.{binary-once, channel-once, comparator-once, first, operand-once, others, run-once, unary-apart, unary-once}

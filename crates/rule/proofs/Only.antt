@@ -16,7 +16,7 @@ use Rattle.rule.specs.declared.parts.UnaryOperator.{UnaryOperator}
 use Rattle.rule.specs.Rules.{Says, SaysOnly, Sayable, Spellable}
 use Rattle.rule.specs.Spellings.{binaryText, channelName, comparatorText, unaryText}
 use Rattle.rule.specs.Trees.{Tree, compares, one, two, mapOperand, mapTree, numbered, operandText, spelling}
-use Rattle.rule.proofs.Fronts.{Ends, Proper, ProperTree, Runny, spelledOut}
+use Rattle.rule.specs.Fronts.{Ends, Proper, ProperTree, Runny, spelledOut}
 use Rattle.rule.proofs.Once.{once}
 
 module _ {S : Type 0} (code : S → ℕ) (written : S → List ℕ) where

@@ -17,7 +17,7 @@ use Rattle.rule.specs.declared.parts.BinaryOperator.{BinaryOperator}
 use Rattle.rule.specs.declared.parts.BinaryOperator.the-variants.{Until, WeakUntil, And, Or, Implies}
 use Rattle.rule.specs.declared.parts.Operand.{Operand}
 use Rattle.rule.specs.declared.parts.Operand.the-variants.{Limit, Channel, Constant}
-use Rattle.rule.proofs.Fronts.{Runny, Stops, Proper}
+use Rattle.rule.specs.Fronts.{Runny, Stops, Proper}
 use Rattle.rule.specs.Spellings.{decimal, channelName, limitText, comparatorText, unaryText, binaryText}
 use Rattle.rule.specs.Trees.{operandText}
 
@@ -43,7 +43,7 @@ run-once (a ∷ u) (b ∷ w) y z p q s t e =
     (ap (λ (x : ℕ). x ∷ u) same ∙ ap (λ (x : List ℕ). b ∷ x) (rest .0), rest .1)
 
 -- a number below 16 has one digit or two
-digits : (n : ℕ) → n < 16 → ((n < 10) × (decimal n ≡ (48 + n) ∷ [])) ⊎ ((10 ≤ n) × (decimal n ≡ 49 ∷ (38 + n) ∷ []))
+pub digits : (n : ℕ) → n < 16 → ((n < 10) × (decimal n ≡ (48 + n) ∷ [])) ⊎ ((10 ≤ n) × (decimal n ≡ 49 ∷ (38 + n) ∷ []))
 digits n low = ⊎-elim (λ (h : n < 10). inl (h, search needs)) (λ (h : 10 ≤ n). inr (h, search needs)) (cases-lt n 10)
 
 -- what cannot stand behind a number: another digit

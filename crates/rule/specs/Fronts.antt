@@ -1,12 +1,13 @@
--- Formulas with each constant as its bytes. Assumes nothing.
-use mathlib.Core.List.{List, [], _∷_}
+-- Formulas at the front of a text, each constant as its bytes. Assumes nothing.
+use mathlib.Core.List.{List, [], _∷_, _++_}
+use mathlib.Core.Path.{_≡_}
 use Prim.Native.Nat.{ℕ, _≤_, _<_}
 use lib.ListN.{length}
 use Rattle.scale.specs.Marks.{RunByte}
 use Rattle.rule.specs.declared.parts.Operand.{Operand}
 use Rattle.rule.specs.declared.parts.Operand.the-variants.{Limit, Channel, Constant}
 use Rattle.rule.specs.Operands.{Unnamed}
-use Rattle.rule.specs.Trees.{Tree, compares, one, two, spelling}
+use Rattle.rule.specs.Trees.{Tree, compares, one, two, size, depth, spelling}
 
 -- bytes that are all of a run
 abbrev pub Runny : List ℕ → Type 0
@@ -39,3 +40,7 @@ Ends (two _ _ _) after = Unit {0}
 -- how a formula over bytes is written
 abbrev pub spelledOut : Tree (List ℕ) → List ℕ
 spelledOut t = spelling (λ x. x) t
+
+-- no formula with at most so many brackets open at once and so many parts begins the bytes
+abbrev pub NoFormula : List ℕ → ℕ → ℕ → Type 0
+NoFormula bytes brackets parts = (t : Tree (List ℕ)) (after : List ℕ) → ProperTree t → depth t ≤ brackets → size t ≤ parts → Ends t after → bytes ≡ spelledOut t ++ after → ⊥
