@@ -1,3 +1,4 @@
+mod Absent
 mod Coded
 mod Compared
 mod Composed

@@ -51,31 +51,31 @@ pub no-number : (b : Cursor) (k n : ℕ) → ((d : ℕ) → Digit d → Ahead b 
 no-number b k n none =
     only-comparison (rest b) k n
     (λ c v o y low p s e.
-        ⊎-elim
-        (λ x. none (48 + c) (omega arith, omega (arith, x .0)) (ahead-of b (48 + c) _ (e ∙ ap (λ (l : List ℕ). l ++ (comparatorText v ++ (written o ++ y))) (x .1))))
-        (λ x. none 49 (omega arith, omega arith) (ahead-of b 49 _ (e ∙ ap (λ (l : List ℕ). l ++ (comparatorText v ++ (written o ++ y))) (x .1))))
-        (digits c low))
+    ⊎-elim
+    (λ x. none (48 + c) (omega arith, omega (arith, x .0)) (ahead-of b (48 + c) _ (e ∙ ap (λ (l : List ℕ). l ++ (comparatorText v ++ (written o ++ y))) (x .1))))
+    (λ x. none 49 (omega arith, omega arith) (ahead-of b 49 _ (e ∙ ap (λ (l : List ℕ). l ++ (comparatorText v ++ (written o ++ y))) (x .1))))
+    (digits c low))
 
 -- a number that was read as far as it goes is the number there
 number-then : (n m s : ℕ) (w u : List ℕ) → n < 16 → m < 16 → 60 ≤ s → (n ≡ 1 → (d : ℕ) (x : List ℕ) → 48 ≤ d → d ≤ 53 → w ≡ d ∷ x → ⊥) → decimal n ++ w ≡ decimal m ++ (s ∷ u) → w ≡ s ∷ u
 number-then n m s w u low low′ high stop e =
     ⊎-elim
     (λ x.
-        ⊎-elim
-        (λ y. ap others (ap (λ (l : List ℕ). l ++ w) (sym (x .1)) ∙ (e ∙ ap (λ (l : List ℕ). l ++ (s ∷ u)) (y .1))))
-        (λ y.
-            let f : (48 + n) ∷ w ≡ 49 ∷ (38 + m) ∷ (s ∷ u) = ap (λ (l : List ℕ). l ++ w) (sym (x .1)) ∙ (e ∙ ap (λ (l : List ℕ). l ++ (s ∷ u)) (y .1)) in
-            absurd (stop (omega (arith, ap first f)) (38 + m) (s ∷ u) (omega (arith, y .0)) (omega (arith, low′)) (ap others f)))
-        (digits m low′))
+    ⊎-elim
+    (λ y. ap others (ap (λ (l : List ℕ). l ++ w) (sym (x .1)) ∙ (e ∙ ap (λ (l : List ℕ). l ++ (s ∷ u)) (y .1))))
+    (λ y.
+    let f : (48 + n) ∷ w ≡ 49 ∷ (38 + m) ∷ (s ∷ u) = ap (λ (l : List ℕ). l ++ w) (sym (x .1)) ∙ (e ∙ ap (λ (l : List ℕ). l ++ (s ∷ u)) (y .1)) in
+    absurd (stop (omega (arith, ap first f)) (38 + m) (s ∷ u) (omega (arith, y .0)) (omega (arith, low′)) (ap others f)))
+    (digits m low′))
     (λ x.
-        ⊎-elim
-        (λ y.
-            let f : 49 ∷ (38 + n) ∷ w ≡ (48 + m) ∷ (s ∷ u) = ap (λ (l : List ℕ). l ++ w) (sym (x .1)) ∙ (e ∙ ap (λ (l : List ℕ). l ++ (s ∷ u)) (y .1)) in
-            absurd (omega (arith, ap (λ (l : List ℕ). first (others l)) f, low)))
-        (λ y.
-            let f : 49 ∷ (38 + n) ∷ w ≡ 49 ∷ (38 + m) ∷ (s ∷ u) = ap (λ (l : List ℕ). l ++ w) (sym (x .1)) ∙ (e ∙ ap (λ (l : List ℕ). l ++ (s ∷ u)) (y .1)) in
-            ap (λ (l : List ℕ). others (others l)) f)
-        (digits m low′))
+    ⊎-elim
+    (λ y.
+    let f : 49 ∷ (38 + n) ∷ w ≡ (48 + m) ∷ (s ∷ u) = ap (λ (l : List ℕ). l ++ w) (sym (x .1)) ∙ (e ∙ ap (λ (l : List ℕ). l ++ (s ∷ u)) (y .1)) in
+    absurd (omega (arith, ap (λ (l : List ℕ). first (others l)) f, low)))
+    (λ y.
+    let f : 49 ∷ (38 + n) ∷ w ≡ 49 ∷ (38 + m) ∷ (s ∷ u) = ap (λ (l : List ℕ). l ++ w) (sym (x .1)) ∙ (e ∙ ap (λ (l : List ℕ). l ++ (s ∷ u)) (y .1)) in
+    ap (λ (l : List ℕ). others (others l)) f)
+    (digits m low′))
     (digits n low)
 
 -- a comparator begins with one of two bytes
@@ -98,10 +98,10 @@ pub no-sign : (b c : Cursor) (k n num : ℕ) → num < 16 → rest b ≡ decimal
 no-sign b c k n num low read stop less greater =
     only-comparison (rest b) k n
     (λ m v o y low′ p s e.
-        let left = number-read b c num low read stop m v (written o ++ y) low′ e in
-        let a = signs v (written o ++ y) in
-        let here = ahead-of c (a .0) (a .1) (left ∙ a .2) in
-        ⊎-elim (λ (h : a .0 ≡ 60). less (subst (Ahead c) h here)) (λ (h : a .0 ≡ 62). greater (subst (Ahead c) h here)) (a .3))
+    let left = number-read b c num low read stop m v (written o ++ y) low′ e in
+    let a = signs v (written o ++ y) in
+    let here = ahead-of c (a .0) (a .1) (left ∙ a .2) in
+    ⊎-elim (λ (h : a .0 ≡ 60). less (subst (Ahead c) h here)) (λ (h : a .0 ≡ 62). greater (subst (Ahead c) h here)) (a .3))
 
 equals-no-run : (b : ℕ) → RunByte b → b ≡ 61 → ⊥
 equals-no-run b r e = search needs
@@ -129,8 +129,8 @@ pub no-operand : (b c d : Cursor) (k n num : ℕ) (v : Comparator) → num < 16 
 no-operand b c d k n num v low read stop sign short none =
     only-comparison (rest b) k n
     (λ m v′ o y low′ p s e.
-        let left = number-read b c num low read stop m v′ (written o ++ y) low′ e in
-        let a = begins o p in
-        let whole : written o ++ y ≡ a .0 ∷ (a .1 ++ y) = ap (λ (l : List ℕ). l ++ y) (a .2) in
-        let after = sign-then v v′ (rest d) (a .1 ++ y) (a .0) (a .3) (λ one z f. short one (ahead-of d 61 z f)) (sym sign ∙ (left ∙ ap (λ (l : List ℕ). comparatorText v′ ++ l) whole)) in
-        none (a .0) (a .3) (ahead-of d (a .0) (a .1 ++ y) after))
+    let left = number-read b c num low read stop m v′ (written o ++ y) low′ e in
+    let a = begins o p in
+    let whole : written o ++ y ≡ a .0 ∷ (a .1 ++ y) = ap (λ (l : List ℕ). l ++ y) (a .2) in
+    let after = sign-then v v′ (rest d) (a .1 ++ y) (a .0) (a .3) (λ one z f. short one (ahead-of d 61 z f)) (sym sign ∙ (left ∙ ap (λ (l : List ℕ). comparatorText v′ ++ l) whole)) in
+    none (a .0) (a .3) (ahead-of d (a .0) (a .1 ++ y) after))
