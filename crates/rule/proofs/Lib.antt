@@ -1,4 +1,5 @@
 mod Absent
+mod Between
 mod Coded
 mod Compared
 mod Composed

@@ -28,6 +28,11 @@ pub any-refused : {X E : Type 0} (r : Result X E) (F : Type 0) → F → refused
 any-refused (Ok x) F h = tt
 any-refused (Err e) F h = h
 
+-- what follows from a fact of any refusal
+pub still-refused : {X E : Type 0} (r : Result X E) (F G : Type 0) → (F → G) → refused r (λ _. F) → refused r (λ _. G)
+still-refused (Ok x) F G f h = tt
+still-refused (Err e) F G f h = f h
+
 -- the first of the bytes to be read is ahead
 pub ahead-of : (c : Cursor) (x : ℕ) (w : List ℕ) → rest c ≡ x ∷ w → Ahead c x
 ahead-of c x w e =

@@ -1,9 +1,11 @@
 // Whole formulas and whole texts.
-ghost use Prim.Native.Nat.{_≤_};
+ghost use Prim.Native.Nat.{_-_, _≤_};
 ghost use lib.ListN.{length};
 ghost use Rattle.std.specs.Vec.{made, refused};
+ghost use Rattle.rule.specs.Cursors.{rest};
 ghost use Rattle.rule.specs.Faults.{Blames};
 ghost use Rattle.rule.specs.Formulas.{partsOf};
+ghost use Rattle.rule.specs.Fronts.{NoFormula};
 ghost use Rattle.rule.specs.Reads.{AllDrawn, Reads, Spelt};
 use crate::faults::TextFault;
 use crate::formulas::Formula;
@@ -21,6 +23,7 @@ fn formula(cursor: &mut Cursor<'_>, left: usize, out: &mut Formula<Run>) -> Resu
     requires { ⌜ length (partsOf (now out)) ≤ now cursor .met ⌝ }
     ensures drawn { λ _. ⌜ (AllDrawn (now (cursor .entry) .text .now) (partsOf (now (out .entry))) → AllDrawn (now (cursor .entry) .text .now) (partsOf (now (out .exit)))) ⌝ }
     ensures blames { λ r. ⌜ refused r (Blames (now (cursor .entry) .text .now)) ⌝ }
+    ensures missing { λ r. ⌜ refused r (λ _. NoFormula (rest (now (cursor .entry))) left (24 - now (cursor .entry) .met)) ⌝ }
     ensures read { λ r. ⌜ made r (Reads (now (cursor .entry)) (now (cursor .exit)) left (partsOf (now (out .entry))) (partsOf (now (out .exit)))) ⌝ }
 {
     let Some(byte) = cursor.peek() else {
