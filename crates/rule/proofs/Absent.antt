@@ -49,12 +49,12 @@ front-operand text (Limit l) s = tt
 front-operand text (Channel n) s = s
 front-operand text (Constant run) s = (omega (arith, run-long text run (s .0), s .0 .some), run-runny text run (s .0), s .1)
 
-front-proper : (text : List ℕ) (t : Tree Run) → Formed text t → ProperTree (mapTree (bytesIn text) t)
+pub front-proper : (text : List ℕ) (t : Tree Run) → Formed text t → ProperTree (mapTree (bytesIn text) t)
 front-proper text (compares c v o) f = (f .0, front-operand text o (f .1))
 front-proper text (one op t) f = front-proper text t f
 front-proper text (two op l r) f = (front-proper text l (f .0), front-proper text r (f .1))
 
-size-mapped : {K L : Type 0} (f : K → L) (t : Tree K) → size (mapTree f t) ≡ size t
+pub size-mapped : {K L : Type 0} (f : K → L) (t : Tree K) → size (mapTree f t) ≡ size t
 size-mapped f (compares _ _ _) = refl
 size-mapped f (one op t) = ap (λ (n : ℕ). n + 1) (size-mapped f t)
 size-mapped f (two op l r) = ap (λ (n : ℕ). n + size (mapTree f r) + 1) (size-mapped f l) ∙ ap (λ (n : ℕ). size l + n + 1) (size-mapped f r)

@@ -15,4 +15,5 @@ mod Only
 mod Passing
 mod Refused
 mod Stretches
+mod Unsaid
 mod Words

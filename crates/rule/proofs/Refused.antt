@@ -35,9 +35,9 @@ module _ {S : Type 0} (code : S → ℕ) (written : S → List ℕ) (text : List
   blamed (Scale fault) s b = absurd b
 
   -- a plain reading's result, once the constants are coded
-  pub told : {X : Type 0} (r : Result X TextFault) (F G : Type 0) → Sized text → made r (λ _. F) → refused r (Blames text) → (F → G) → Cases r (λ _. G) (Refuses code written text)
-  told (Ok x) F G s m b f = f m
-  told (Err e) F G s m b f = blamed e s b
+  pub told : {X : Type 0} (r : Result X TextFault) (F G N M : Type 0) → Sized text → made r (λ _. F) → refused r (Blames text) → refused r (λ _. N) → (F → G) → (N → M) → Cases r (λ _. G) (λ e. Refuses code written text e × M)
+  told (Ok x) F G N M s m b n f g = f m
+  told (Err e) F G N M s m b n f g = (blamed e s b, g n)
 
   unread-operand : (o : Operand Run) (fault : ScaleFault) → Stands text o → UnreadOperand code written text o fault → UnreadRun code written text fault
   unread-operand (Limit l) fault d u = absurd u

@@ -44,3 +44,7 @@ spelledOut t = spelling (λ x. x) t
 -- no formula with at most so many brackets open at once and so many parts begins the bytes
 abbrev pub NoFormula : List ℕ → ℕ → ℕ → Type 0
 NoFormula bytes brackets parts = (t : Tree (List ℕ)) (after : List ℕ) → ProperTree t → depth t ≤ brackets → size t ≤ parts → Ends t after → bytes ≡ spelledOut t ++ after → ⊥
+
+-- no formula that a rule can have is the whole text
+abbrev pub NoWhole : List ℕ → Type 0
+NoWhole text = (t : Tree (List ℕ)) → ProperTree t → depth t ≤ 12 → size t ≤ 24 → text ≡ spelledOut t → ⊥

@@ -56,6 +56,10 @@ module _ {S : Type 0} (code : S → ℕ) (written : S → List ℕ) where
     pub says : Says text parts
     pub only : (others : List (Part ℕ)) → Says text others → others ≡ parts
 
+  -- the text says nothing
+  abbrev pub Unsaid : List ℕ → Type 0
+  Unsaid text = (parts : List (Part ℕ)) → Says text parts → ⊥
+
   -- a run of the text that names no limit and no channel, and that no mark is written as
   pub record UnreadRun (text : List ℕ) (fault : ScaleFault) : Type 0 where
     pub run : Run

@@ -5,7 +5,7 @@ ghost use Rattle.std.specs.Vec.{made, refused};
 ghost use Rattle.rule.specs.Cursors.{rest};
 ghost use Rattle.rule.specs.Faults.{Blames};
 ghost use Rattle.rule.specs.Formulas.{partsOf};
-ghost use Rattle.rule.specs.Fronts.{NoFormula};
+ghost use Rattle.rule.specs.Fronts.{NoFormula, NoWhole};
 ghost use Rattle.rule.specs.Reads.{AllDrawn, Reads, Spelt};
 use crate::faults::TextFault;
 use crate::formulas::Formula;
@@ -58,6 +58,7 @@ fn formula(cursor: &mut Cursor<'_>, left: usize, out: &mut Formula<Run>) -> Resu
 pub fn read_text(text: &[u8], out: &mut Formula<Run>) -> Result<(), TextFault>
     ensures drawn { λ _. ⌜ AllDrawn (now (text .entry)) (partsOf (now (out .exit))) ⌝ }
     ensures blames { λ r. ⌜ refused r (Blames (now (text .entry))) ⌝ }
+    ensures missing { λ r. ⌜ refused r (λ _. NoWhole (now (text .entry))) ⌝ }
     ensures read { λ r. ⌜ made r (λ _. Spelt (now (text .entry)) (partsOf (now (out .exit)))) ⌝ }
 {
     out.clear();
