@@ -7,7 +7,7 @@ use lib.ListN.{length, drop}
 use Rattle.std.specs.declared.result.Result.{Result}
 use Rattle.std.specs.declared.result.Result.the-variants.{Ok, Err}
 use Rattle.std.specs.Results.{Cases}
-use Rattle.std.specs.Vec.{made}
+use Rattle.std.specs.Vec.{made, refused}
 use Rattle.std.proofs.shelf.Lists.{drop-all}
 use Rattle.rule.specs.declared.parts.Part.{Part}
 use Rattle.rule.specs.declared.readers.Cursor.{Cursor}
@@ -21,6 +21,11 @@ use Rattle.rule.specs.Trees.{numbered, size, spelling}
 pub made-from : {X E : Type 0} (r : Result X E) (P : X → Type 0) (Q : E → Type 0) (G : X → Type 0) → Cases r P Q → ((x : X) → P x → G x) → made r G
 made-from (Ok x) P Q G h f = f x h
 made-from (Err e) P Q G h f = tt
+
+-- what holds where it was refused
+pub refused-from : {X E : Type 0} (r : Result X E) (P : X → Type 0) (Q : E → Type 0) (G : E → Type 0) → Cases r P Q → ((e : E) → Q e → G e) → refused r G
+refused-from (Ok x) P Q G h f = tt
+refused-from (Err e) P Q G h f = f e h
 
 pub spelt : (a b : Cursor) (old new : List (Part Run)) (r : ℕ) → a .at ≡ 0 → a .met ≡ 0 → old ≡ [] → Reads a b 12 old new r → b .at ≡ length (b .text .now) → Spelt (a .text .now) new
 spelt a b old new r start unmet blank q end =

@@ -1,3 +1,5 @@
+mod Absent
+mod Between
 mod Coded
 mod Compared
 mod Composed
@@ -5,7 +7,13 @@ mod Drawing
 mod Ending
 mod Extends
 mod Marking
+mod Missing
 mod Names
 mod Numbering
+mod Once
+mod Only
 mod Passing
+mod Refused
 mod Stretches
+mod Unsaid
+mod Words

@@ -3,7 +3,9 @@ use mathlib.Core.List.{List, [], _∷_, _++_}
 use mathlib.Core.Path.{_≡_}
 use Prim.Native.Nat.{ℕ, _+_, _<_, _≤_}
 use lib.ListN.{length, drop, getD}
+use Rattle.rule.specs.declared.parts.BinaryOperator.{BinaryOperator}
 use Rattle.rule.specs.declared.readers.Cursor.{Cursor}
+use Rattle.rule.specs.Spellings.{binaryText}
 
 -- the bytes that are still to be read
 abbrev pub rest : Cursor → List ℕ
@@ -24,6 +26,10 @@ pub record Meets (before after : Cursor) : Type 0 where
   pub same : after .text ≡ before .text
   pub here : after .at ≡ before .at
   pub counts : after .met ≡ before .met + 1
+
+-- no operator between two operands is ahead that could still be counted
+abbrev pub NoOperator : Cursor → Type 0
+NoOperator c = (op : BinaryOperator) (after : List ℕ) → c .met < 24 → rest c ≡ binaryText op ++ after → ⊥
 
 -- a decimal digit
 abbrev pub Digit : ℕ → Type 0

@@ -2,6 +2,7 @@ pub mod Codings
 pub mod Cursors
 pub mod Faults
 pub mod Formulas
+pub mod Fronts
 pub mod Operands
 pub mod Orders
 pub mod Parts

@@ -90,9 +90,9 @@ impl Cursor<'_> {
     pub fn finish(&self) -> Result<(), TextFault>
         ensures { λ r. ⌜ Cases r (λ _. now (self .entry) .at ≡ length (now (self .entry) .text .now)) (λ e. (e ≡ TextFault.Form (now (self .entry) .at)) × (now (self .entry) .at < length (now (self .entry) .text .now))) ⌝ }
     {
-        if self.at < self.text.len() {
-            return Err(self.misfit());
+        match self.peek() {
+            Some(_) => Err(self.misfit()),
+            None => Ok(()),
         }
-        Ok(())
     }
 }

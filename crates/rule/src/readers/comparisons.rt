@@ -1,14 +1,16 @@
 // A comparison: a channel, a comparator and an operand.
 ghost use mathlib.Core.Path.{_≡_};
 ghost use mathlib.Core.List.{[], _∷_};
-ghost use Prim.Native.Nat.{ℕ, _<_, _≤_};
+ghost use Prim.Native.Nat.{ℕ, _-_, _<_, _≤_};
 ghost use lib.ListN.{length, getD};
 ghost use Rattle.std.specs.Results.{Cases};
 ghost use Rattle.std.specs.Orderings.{When};
 ghost use Rattle.scale.specs.Marks.{RunByte};
-ghost use Rattle.rule.specs.Cursors.{Ahead, Passes, Digit};
-ghost use Rattle.std.specs.Vec.{made};
+ghost use Rattle.rule.specs.Cursors.{Ahead, Digit, Passes, rest};
+ghost use Rattle.std.specs.Vec.{made, refused};
+ghost use Rattle.rule.specs.Faults.{Blames};
 ghost use Rattle.rule.specs.Formulas.{partsOf};
+ghost use Rattle.rule.specs.Fronts.{NoFormula};
 ghost use Rattle.rule.specs.Operands.{MeantBy};
 ghost use Rattle.rule.specs.Reads.{AllDrawn, Reads, Stands};
 ghost use Rattle.rule.specs.Trees.{operandText};
@@ -101,6 +103,8 @@ impl Cursor<'_> {
         requires ahead { ⌜ Ahead (now self) 99 ⌝ }
         requires room { ⌜ length (partsOf (now out)) ≤ now self .met ⌝ }
         ensures drawn { λ _. ⌜ (AllDrawn (now (self .entry) .text .now) (partsOf (now (out .entry))) → AllDrawn (now (self .entry) .text .now) (partsOf (now (out .exit)))) ⌝ }
+        ensures blames { λ r. ⌜ refused r (Blames (now (self .entry) .text .now)) ⌝ }
+        ensures missing { λ r. ⌜ refused r (λ _. (brackets : ℕ) → NoFormula (rest (now (self .entry))) brackets (24 - now (self .entry) .met)) ⌝ }
         ensures read { λ r. ⌜ made r (Reads (now (self .entry)) (now (self .exit)) 0 (partsOf (now (out .entry))) (partsOf (now (out .exit)))) ⌝ }
     {
         self.meet()?;
