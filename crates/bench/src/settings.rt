@@ -1,9 +1,9 @@
 // Rules set on a bench: each part is held against the recording's channels and scale.
 ghost use mathlib.Core.Path.{_≡_};
+use formula::Operand;
+use formula::Part;
 use recording::TapeFault;
 use recording::TapeFaultFromScale;
-use rule::Operand;
-use rule::Part;
 use scale::Scale;
 use scale::ScaleFault;
 

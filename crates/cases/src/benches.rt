@@ -59,14 +59,23 @@ fn what_is_missing_is_told(rt: LibcRuntime) -> Result<(), Fail> {
     check_eq(bench.set(Rule::new(heap)?), Err(BenchFault::NoRule))?;
     let mut rule = Rule::new(heap)?;
     rule.read::<Reading>(b"(c0<p)&(c1<c4)")?;
-    check_eq(bench.set(rule), Err(BenchFault::Part { part: 1, fault: TapeFault::NoChannel }))?;
+    check_eq(
+        bench.set(rule),
+        Err(BenchFault::Part {
+            part: 1,
+            fault: TapeFault::NoChannel,
+        }),
+    )?;
     check_eq(bench.solve(3), Err(BenchFault::NoRule))?;
     let mut fine = Rule::new(heap)?;
     fine.read::<Reading>(b"c0<p")?;
     bench.set(fine)?;
     check_eq(bench.solve(3), Err(BenchFault::Tape(TapeFault::NoPoint)))?;
     check_eq(bench.solve(2), Ok(1))?;
-    check_eq(bench.print(&mut output), Err(BenchFault::Room { needed: 12 }))?;
+    check_eq(
+        bench.print(&mut output),
+        Err(BenchFault::Room { needed: 12 }),
+    )?;
     check(output == [7u8; 4])
 }
 

@@ -13,16 +13,56 @@ struct Sheet {
 }
 
 const SHEETS: [Sheet; 10] = [
-    Sheet { rule: "F(c0>=p)", point: 0, listing: "boxes 1\np<=7\n" },
-    Sheet { rule: "G((c0<=p)&(c0>=q))", point: 0, listing: "boxes 1\np>=7,q<=3\n" },
-    Sheet { rule: "(c0<=p)U(c1>=1)", point: 0, listing: "boxes 1\np>=7\n" },
-    Sheet { rule: "(c0>=p)W(c1>=1)", point: 0, listing: "boxes 1\np<=3\n" },
-    Sheet { rule: "!((c0>=p)W(c1>=1))", point: 0, listing: "boxes 1\np>3\n" },
-    Sheet { rule: "(c1>p)&(c2<p)", point: 2, listing: "boxes 1\np>0,p<1\n" },
-    Sheet { rule: "(c0<p)|(c0>q)", point: 0, listing: "boxes 2\np>3\nq<3\n" },
-    Sheet { rule: "X(c0>=p)", point: 2, listing: "boxes 1\np<=5\n" },
-    Sheet { rule: "c0<9", point: 0, listing: "boxes 1\nany\n" },
-    Sheet { rule: "c0>9", point: 0, listing: "boxes 0\n" },
+    Sheet {
+        rule: "F(c0>=p)",
+        point: 0,
+        listing: "boxes 1\np<=7\n",
+    },
+    Sheet {
+        rule: "G((c0<=p)&(c0>=q))",
+        point: 0,
+        listing: "boxes 1\np>=7,q<=3\n",
+    },
+    Sheet {
+        rule: "(c0<=p)U(c1>=1)",
+        point: 0,
+        listing: "boxes 1\np>=7\n",
+    },
+    Sheet {
+        rule: "(c0>=p)W(c1>=1)",
+        point: 0,
+        listing: "boxes 1\np<=3\n",
+    },
+    Sheet {
+        rule: "!((c0>=p)W(c1>=1))",
+        point: 0,
+        listing: "boxes 1\np>3\n",
+    },
+    Sheet {
+        rule: "(c1>p)&(c2<p)",
+        point: 2,
+        listing: "boxes 1\np>0,p<1\n",
+    },
+    Sheet {
+        rule: "(c0<p)|(c0>q)",
+        point: 0,
+        listing: "boxes 2\np>3\nq<3\n",
+    },
+    Sheet {
+        rule: "X(c0>=p)",
+        point: 2,
+        listing: "boxes 1\np<=5\n",
+    },
+    Sheet {
+        rule: "c0<9",
+        point: 0,
+        listing: "boxes 1\nany\n",
+    },
+    Sheet {
+        rule: "c0>9",
+        point: 0,
+        listing: "boxes 0\n",
+    },
 ];
 
 struct Refusal {
@@ -32,15 +72,51 @@ struct Refusal {
 }
 
 const REFUSALS: [Refusal; 9] = [
-    Refusal { rule: "", point: 0, number: 1 },
-    Refusal { rule: "c0<", point: 0, number: 2 },
-    Refusal { rule: "X(X(X(X(X(X(X(X(X(X(X(X(X(c0<p)))))))))))))", point: 0, number: 3 },
-    Refusal { rule: "c0<off", point: 0, number: 5 },
-    Refusal { rule: "c4<p", point: 0, number: 6 },
-    Refusal { rule: "c0<c15", point: 0, number: 6 },
-    Refusal { rule: "c0<p", point: 3, number: 8 },
-    Refusal { rule: "c0<p", point: 18446744073709551615, number: 8 },
-    Refusal { rule: "c0<off", point: 9, number: 5 },
+    Refusal {
+        rule: "",
+        point: 0,
+        number: 1,
+    },
+    Refusal {
+        rule: "c0<",
+        point: 0,
+        number: 2,
+    },
+    Refusal {
+        rule: "X(X(X(X(X(X(X(X(X(X(X(X(X(c0<p)))))))))))))",
+        point: 0,
+        number: 3,
+    },
+    Refusal {
+        rule: "c0<off",
+        point: 0,
+        number: 5,
+    },
+    Refusal {
+        rule: "c4<p",
+        point: 0,
+        number: 6,
+    },
+    Refusal {
+        rule: "c0<c15",
+        point: 0,
+        number: 6,
+    },
+    Refusal {
+        rule: "c0<p",
+        point: 3,
+        number: 8,
+    },
+    Refusal {
+        rule: "c0<p",
+        point: 18446744073709551615,
+        number: 8,
+    },
+    Refusal {
+        rule: "c0<off",
+        point: 9,
+        number: 5,
+    },
 ];
 
 // What the call answers with room to spare.
@@ -55,7 +131,13 @@ fn sheets(rt: LibcRuntime) -> Result<(), Fail> {
     for sheet in SHEETS.iter() {
         let mut output = [7u8; 64];
         let expected = sheet.listing.as_bytes();
-        let length = stop_limits(rt.alloc(), sheet.rule.as_bytes(), records.as_slice(), sheet.point, &mut output);
+        let length = stop_limits(
+            rt.alloc(),
+            sheet.rule.as_bytes(),
+            records.as_slice(),
+            sheet.point,
+            &mut output,
+        );
         check(length >= 0 && length <= 63)?;
         let written = length as usize;
         check(&output[0..written] == expected).note(sheet.rule)?;
@@ -105,10 +187,16 @@ fn room(rt: LibcRuntime) -> Result<(), Fail> {
     let records = three_points(heap)?;
     let rule = b"F(c0>=p)";
     let mut short = [7u8; 12];
-    check_eq(stop_limits(heap, rule, records.as_slice(), 0, &mut short), -16)?;
+    check_eq(
+        stop_limits(heap, rule, records.as_slice(), 0, &mut short),
+        -16,
+    )?;
     check(short == [7u8; 12])?;
     let mut exact = [7u8; 13];
-    check_eq(stop_limits(heap, rule, records.as_slice(), 0, &mut exact), 13)?;
+    check_eq(
+        stop_limits(heap, rule, records.as_slice(), 0, &mut exact),
+        13,
+    )?;
     check(&exact == b"boxes 1\np<=7\n")
 }
 

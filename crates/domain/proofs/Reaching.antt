@@ -4,12 +4,12 @@ use mathlib.Core.Path.{_≡_, ap}
 use Prim.Native.Nat.{ℕ, _+_, _≤_, max}
 use native.Mathlib.Omega.{arith}
 use lib.Dec.{eqb}
-use Rattle.rule.specs.Orders.{reach}
-use Rattle.rule.specs.declared.parts.Operand.the-variants.{Limit, Channel, Constant}
-use Rattle.rule.specs.declared.parts.Part.{Part}
-use Rattle.rule.specs.declared.parts.Part.the-variants.{Comparison, Unary, Binary}
-use Rattle.rule.specs.declared.parts.UnaryOperator.the-variants.{Not, Next as nextOp, Finally, Globally}
-use Rattle.rule.specs.declared.parts.BinaryOperator.the-variants.{And, Or, Implies, Until as untilOp, WeakUntil as weakOp}
+use Rattle.formula.specs.Orders.{reach}
+use Rattle.formula.specs.declared.parts.Operand.the-variants.{Limit, Channel, Constant}
+use Rattle.formula.specs.declared.parts.Part.{Part}
+use Rattle.formula.specs.declared.parts.Part.the-variants.{Comparison, Unary, Binary}
+use Rattle.formula.specs.declared.parts.UnaryOperator.the-variants.{Not, Next as nextOp, Finally, Globally}
+use Rattle.formula.specs.declared.parts.BinaryOperator.the-variants.{And, Or, Implies, Until as untilOp, WeakUntil as weakOp}
 use Rattle.domain.specs.declared.steps.Step.{Step}
 use Rattle.domain.specs.declared.steps.Step.the-variants.{Bound, Everything, Nothing, Same, Join, Meet, Later}
 use Rattle.domain.specs.declared.steps.Outlook.the-variants.{Next, Eventually, Always, Until, WeakUntil}

@@ -3,8 +3,8 @@ use mathlib.Core.Bool.{Bool}
 use Prim.Native.Nat.{ℕ}
 use lib.Dec.{leb, ltb}
 use Rattle.scale.specs.declared.cuts.Cut.the-variants.{LowerEnd, Below, Above, UpperEnd}
-use Rattle.rule.specs.declared.parts.Comparator.{Comparator}
-use Rattle.rule.specs.declared.parts.Comparator.the-variants.{Less, Greater, AtMost, AtLeast}
+use Rattle.formula.specs.declared.parts.Comparator.{Comparator}
+use Rattle.formula.specs.declared.parts.Comparator.the-variants.{Less, Greater, AtMost, AtLeast}
 use Rattle.domain.specs.declared.sides.Interval.{Interval}
 
 -- the limits x for which mark m compares so with x

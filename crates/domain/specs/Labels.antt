@@ -7,7 +7,7 @@ use lib.ListN.{getD, set}
 use Rattle.std.specs.Results.{isErr}
 use Rattle.std.specs.declared.result.Result.{Result}
 use Rattle.std.specs.declared.result.Result.the-variants.{Ok, Err}
-use Rattle.rule.specs.Parts.{limitIndex}
+use Rattle.formula.specs.Parts.{limitIndex}
 use Rattle.domain.specs.declared.lists.Domain.{Domain}
 use Rattle.domain.specs.declared.lists.Full.{Full}
 use Rattle.domain.specs.declared.steps.Step.{Step}

@@ -2,13 +2,13 @@
 use mathlib.Core.Bool.{Bool, true, false, cond}
 use Prim.Native.Nat.{ℕ, _+_, max}
 use lib.Dec.{eqb}
-use Rattle.rule.specs.Parts.{opposed}
-use Rattle.rule.specs.declared.parts.Comparator.{Comparator}
-use Rattle.rule.specs.declared.parts.Operand.the-variants.{Limit, Channel, Constant}
-use Rattle.rule.specs.declared.parts.Part.{Part}
-use Rattle.rule.specs.declared.parts.Part.the-variants.{Comparison, Unary, Binary}
-use Rattle.rule.specs.declared.parts.UnaryOperator.the-variants.{Not, Next as nextOp, Finally, Globally}
-use Rattle.rule.specs.declared.parts.BinaryOperator.the-variants.{And, Or, Implies, Until as untilOp, WeakUntil as weakOp}
+use Rattle.formula.specs.Parts.{opposed}
+use Rattle.formula.specs.declared.parts.Comparator.{Comparator}
+use Rattle.formula.specs.declared.parts.Operand.the-variants.{Limit, Channel, Constant}
+use Rattle.formula.specs.declared.parts.Part.{Part}
+use Rattle.formula.specs.declared.parts.Part.the-variants.{Comparison, Unary, Binary}
+use Rattle.formula.specs.declared.parts.UnaryOperator.the-variants.{Not, Next as nextOp, Finally, Globally}
+use Rattle.formula.specs.declared.parts.BinaryOperator.the-variants.{And, Or, Implies, Until as untilOp, WeakUntil as weakOp}
 use Rattle.domain.specs.declared.steps.Step.{Step}
 use Rattle.domain.specs.declared.steps.Step.the-variants.{Bound, Everything, Nothing, Same, Join, Meet, Later}
 use Rattle.domain.specs.declared.steps.Outlook.{Outlook}

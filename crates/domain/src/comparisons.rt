@@ -2,7 +2,7 @@
 ghost use mathlib.Core.Path.{_≡_};
 ghost use Rattle.domain.specs.Comparisons.{sideOf, meets};
 use crate::sides::Interval;
-use rule::Comparator;
+use formula::Comparator;
 use scale::Cut;
 use scale::Scale;
 

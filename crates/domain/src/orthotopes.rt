@@ -1,11 +1,11 @@
 // Boxes: containment and overlap, side by side.
 ghost use mathlib.Core.Path.{_≡_};
 ghost use lib.ListN.{set};
-ghost use Rattle.rule.specs.Parts.{limitIndex};
+ghost use Rattle.formula.specs.Parts.{limitIndex};
 ghost use Rattle.domain.specs.Boxes.{sidesOf, fullBox, emptyBox, containsBox, overlapBox};
 use crate::shapes::Orthotope;
 use crate::sides::Interval;
-use rule::LimitName;
+use formula::LimitName;
 use scale::Scale;
 
 impl<S: Scale> Orthotope<S> {

@@ -2,11 +2,11 @@
 ghost use mathlib.Core.Path.{_≡_};
 ghost use Prim.Native.Nat.{_≤_};
 ghost use lib.ListN.{length};
-ghost use Rattle.rule.specs.Orders.{Ordered, reach};
-use rule::BinaryOperator;
-use rule::MAX_PARTS;
-use rule::Part;
-use rule::UnaryOperator;
+ghost use Rattle.formula.specs.Orders.{Ordered, reach};
+use formula::BinaryOperator;
+use formula::MAX_PARTS;
+use formula::Part;
+use formula::UnaryOperator;
 
 // What an operator at this number makes of its operands' signs.
 fn pass_down<K: Copy>(part: Part<K>, turned: bool, signs: &mut [bool])

@@ -5,13 +5,13 @@ use crate::comparisons::bounded_by;
 use crate::comparisons::compares;
 use crate::sides::Interval;
 use crate::sides::IntervalClone;
+use formula::BinaryOperator;
+use formula::Comparator;
+use formula::LimitName;
+use formula::Operand;
+use formula::Part;
+use formula::UnaryOperator;
 use recording::Recording;
-use rule::BinaryOperator;
-use rule::Comparator;
-use rule::LimitName;
-use rule::Operand;
-use rule::Part;
-use rule::UnaryOperator;
 use scale::Scale;
 
 // What a part says of this point alone. Numbers are those of lower parts, whose lists are joined or met.

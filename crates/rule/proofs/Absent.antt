@@ -7,12 +7,12 @@ use native.Mathlib.Omega.{arith}
 use lib.ListN.{length, take, drop, getD, length-drop}
 use Rattle.std.proofs.shelf.Lists.{drop-all, getD-drop, getD-take, length-take-le}
 use Rattle.scale.specs.Marks.{RunByte}
-use Rattle.rule.specs.declared.parts.BinaryOperator.{BinaryOperator}
-use Rattle.rule.specs.declared.parts.Operand.{Operand}
-use Rattle.rule.specs.declared.parts.Operand.the-variants.{Limit, Channel, Constant}
-use Rattle.rule.specs.declared.parts.Part.{Part}
-use Rattle.rule.specs.declared.parts.UnaryOperator.{UnaryOperator}
-use Rattle.rule.specs.declared.parts.UnaryOperator.the-variants.{Not, Next, Finally, Globally}
+use Rattle.formula.specs.declared.parts.BinaryOperator.{BinaryOperator}
+use Rattle.formula.specs.declared.parts.Operand.{Operand}
+use Rattle.formula.specs.declared.parts.Operand.the-variants.{Limit, Channel, Constant}
+use Rattle.formula.specs.declared.parts.Part.{Part}
+use Rattle.formula.specs.declared.parts.UnaryOperator.{UnaryOperator}
+use Rattle.formula.specs.declared.parts.UnaryOperator.the-variants.{Not, Next, Finally, Globally}
 use Rattle.rule.specs.declared.readers.Cursor.{Cursor}
 use Rattle.rule.specs.declared.readers.Run.{Run}
 use Rattle.rule.specs.Cursors.{Ahead, rest}
@@ -20,7 +20,8 @@ use Rattle.rule.specs.Fronts.{Ends, NoFormula, Proper, ProperTree, Runny, spel
 use Rattle.rule.specs.Reads.{Ended, Formed, Reads, Stands}
 use Rattle.rule.specs.Runs.{bytesIn, IsRun}
 use Rattle.rule.specs.Spellings.{binaryText, channelName, comparatorText, unaryText}
-use Rattle.rule.specs.Trees.{Tree, compares, one, two, depth, mapOperand, mapTree, operandText, size, spelling}
+use Rattle.formula.specs.Trees.{Tree, compares, one, two, depth, mapOperand, mapTree, size}
+use Rattle.rule.specs.Written.{operandText, spelling}
 use Rattle.rule.proofs.Missing.{ahead-of}
 use Rattle.rule.proofs.Once.{ends-close, flat-comparison, flat-one, flat-two, once}
 use Rattle.rule.proofs.Only.{written-out}

@@ -5,8 +5,8 @@ use Prim.Native.Nat.{ℕ, _<_}
 use native.Mathlib.Omega.{arith}
 use lib.ListN.{length}
 use Rattle.std.proofs.shelf.Lists.{drop-all}
-use Rattle.rule.specs.declared.parts.BinaryOperator.{BinaryOperator}
-use Rattle.rule.specs.declared.parts.BinaryOperator.the-variants.{Until, WeakUntil, And, Or, Implies}
+use Rattle.formula.specs.declared.parts.BinaryOperator.{BinaryOperator}
+use Rattle.formula.specs.declared.parts.BinaryOperator.the-variants.{Until, WeakUntil, And, Or, Implies}
 use Rattle.rule.specs.declared.readers.Cursor.{Cursor}
 use Rattle.rule.specs.Cursors.{Ahead, NoOperator, rest}
 use Rattle.rule.specs.Spellings.{binaryText, firstOf}

@@ -9,9 +9,9 @@ use lib.ListN.{length, getD}
 use Rattle.std.proofs.shelf.Lists.{getD-append-left, getD-push, length-push}
 use Rattle.std.proofs.shelf.Tests.{cases-lt}
 use Rattle.scale.specs.declared.faults.ScaleFault.{ScaleFault}
-use Rattle.rule.specs.declared.parts.Part.{Part}
-use Rattle.rule.specs.declared.parts.Part.the-variants.{Unary}
-use Rattle.rule.specs.declared.parts.UnaryOperator.the-variants.{Not}
+use Rattle.formula.specs.declared.parts.Part.{Part}
+use Rattle.formula.specs.declared.parts.Part.the-variants.{Unary}
+use Rattle.formula.specs.declared.parts.UnaryOperator.the-variants.{Not}
 use Rattle.rule.specs.declared.readers.Run.{Run}
 use Rattle.rule.specs.Codings.{CodedPart, UnreadPart, FirstUnread}
 

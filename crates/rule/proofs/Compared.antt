@@ -6,17 +6,18 @@ use native.Mathlib.Omega.{arith}
 use lib.ListN.{length}
 use denote.Ref.{RefT}
 use Rattle.scale.specs.Marks.{RunByte}
-use Rattle.rule.specs.declared.parts.Comparator.{Comparator}
-use Rattle.rule.specs.declared.parts.Operand.{Operand}
-use Rattle.rule.specs.declared.parts.Part.{Part}
-use Rattle.rule.specs.declared.parts.Part.the-variants.{Comparison}
+use Rattle.formula.specs.declared.parts.Comparator.{Comparator}
+use Rattle.formula.specs.declared.parts.Operand.{Operand}
+use Rattle.formula.specs.declared.parts.Part.{Part}
+use Rattle.formula.specs.declared.parts.Part.the-variants.{Comparison}
 use Rattle.rule.specs.declared.readers.Cursor.{Cursor}
 use Rattle.rule.specs.declared.readers.Run.{Run}
 use Rattle.rule.specs.Cursors.{Ahead, Meets, Passes}
 use Rattle.rule.specs.Runs.{bytesIn}
 use Rattle.rule.specs.Reads.{Reads, Stands}
 use Rattle.rule.specs.Spellings.{decimal, comparatorText}
-use Rattle.rule.specs.Trees.{compares, operandText}
+use Rattle.formula.specs.Trees.{compares}
+use Rattle.rule.specs.Written.{operandText}
 use Rattle.rule.proofs.Passing.{then, meeting}
 
 pub compared :

@@ -5,17 +5,18 @@ use Prim.Native.Nat.{ℕ, _+_, _-_, _<_, _≤_}
 use native.Mathlib.Omega.{arith}
 use lib.ListN.{length}
 use denote.Ref.{RefT}
-use Rattle.rule.specs.declared.parts.BinaryOperator.{BinaryOperator}
-use Rattle.rule.specs.declared.parts.UnaryOperator.{UnaryOperator}
-use Rattle.rule.specs.declared.parts.Part.{Part}
-use Rattle.rule.specs.declared.parts.Part.the-variants.{Unary, Binary}
+use Rattle.formula.specs.declared.parts.BinaryOperator.{BinaryOperator}
+use Rattle.formula.specs.declared.parts.UnaryOperator.{UnaryOperator}
+use Rattle.formula.specs.declared.parts.Part.{Part}
+use Rattle.formula.specs.declared.parts.Part.the-variants.{Unary, Binary}
 use Rattle.rule.specs.declared.readers.Cursor.{Cursor}
 use Rattle.rule.specs.declared.readers.Run.{Run}
 use Rattle.rule.specs.Cursors.{Meets, Passes}
 use Rattle.rule.specs.Reads.{Reads, Formed}
 use Rattle.rule.specs.Runs.{bytesIn}
 use Rattle.rule.specs.Spellings.{unaryText, binaryText}
-use Rattle.rule.specs.Trees.{Tree, one, two, size, root, numbered, spelling}
+use Rattle.formula.specs.Trees.{Tree, one, two, size, root, numbered}
+use Rattle.rule.specs.Written.{spelling}
 use Rattle.rule.proofs.Numbering.{grown}
 use Rattle.rule.proofs.Passing.{then, meeting}
 

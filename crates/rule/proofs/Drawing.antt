@@ -7,7 +7,7 @@ use native.Mathlib.Omega.{arith}
 use lib.ListN.{length, getD}
 use Rattle.std.proofs.shelf.Lists.{getD-append-left, getD-push, length-push}
 use Rattle.std.proofs.shelf.Tests.{cases-lt}
-use Rattle.rule.specs.declared.parts.Part.{Part}
+use Rattle.formula.specs.declared.parts.Part.{Part}
 use Rattle.rule.specs.declared.readers.Run.{Run}
 use Rattle.rule.specs.Reads.{Drawn, AllDrawn}
 

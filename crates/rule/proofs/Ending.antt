@@ -9,13 +9,14 @@ use Rattle.std.specs.declared.result.Result.the-variants.{Ok, Err}
 use Rattle.std.specs.Results.{Cases}
 use Rattle.std.specs.Vec.{made, refused}
 use Rattle.std.proofs.shelf.Lists.{drop-all}
-use Rattle.rule.specs.declared.parts.Part.{Part}
+use Rattle.formula.specs.declared.parts.Part.{Part}
 use Rattle.rule.specs.declared.readers.Cursor.{Cursor}
 use Rattle.rule.specs.declared.readers.Run.{Run}
 use Rattle.rule.specs.Cursors.{rest}
 use Rattle.rule.specs.Reads.{Reads, Spelt}
 use Rattle.rule.specs.Runs.{bytesIn}
-use Rattle.rule.specs.Trees.{numbered, size, spelling}
+use Rattle.formula.specs.Trees.{numbered, size}
+use Rattle.rule.specs.Written.{spelling}
 
 -- what holds where a call succeeded
 pub made-from : {X E : Type 0} (r : Result X E) (P : X → Type 0) (Q : E → Type 0) (G : X → Type 0) → Cases r P Q → ((x : X) → P x → G x) → made r G

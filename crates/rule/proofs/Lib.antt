@@ -5,7 +5,6 @@ mod Compared
 mod Composed
 mod Drawing
 mod Ending
-mod Extends
 mod Marking
 mod Missing
 mod Names

@@ -5,14 +5,14 @@ use Prim.Native.Nat.{ℕ, _+_, _-_, _≤_, _<_, suc, max}
 use native.Mathlib.Numerals.{add-one}
 use native.Mathlib.Omega.{arith}
 use lib.ListN.{length, getD}
-use Rattle.rule.specs.declared.parts.BinaryOperator.{BinaryOperator}
-use Rattle.rule.specs.declared.parts.Comparator.{Comparator}
-use Rattle.rule.specs.declared.parts.Operand.{Operand}
-use Rattle.rule.specs.declared.parts.Operand.the-variants.{Limit, Channel, Constant}
-use Rattle.rule.specs.declared.parts.Part.{Part}
-use Rattle.rule.specs.declared.parts.Part.the-variants.{Comparison, Unary, Binary}
-use Rattle.rule.specs.declared.parts.UnaryOperator.{UnaryOperator}
-use Rattle.rule.specs.declared.parts.UnaryOperator.the-variants.{Not}
+use Rattle.formula.specs.declared.parts.BinaryOperator.{BinaryOperator}
+use Rattle.formula.specs.declared.parts.Comparator.{Comparator}
+use Rattle.formula.specs.declared.parts.Operand.{Operand}
+use Rattle.formula.specs.declared.parts.Operand.the-variants.{Limit, Channel, Constant}
+use Rattle.formula.specs.declared.parts.Part.{Part}
+use Rattle.formula.specs.declared.parts.Part.the-variants.{Comparison, Unary, Binary}
+use Rattle.formula.specs.declared.parts.UnaryOperator.{UnaryOperator}
+use Rattle.formula.specs.declared.parts.UnaryOperator.the-variants.{Not}
 use Rattle.rule.specs.declared.readers.Run.{Run}
 use Rattle.rule.specs.Codings.{AllCoded, CodedOperand, CodedPart}
 use Rattle.rule.specs.Operands.{Unnamed}
@@ -20,7 +20,8 @@ use Rattle.rule.specs.Reads.{Formed, Spelt, Stands}
 use Rattle.rule.specs.Rules.{Sayable, Says, Sized, Spellable}
 use Rattle.rule.specs.Runs.{bytesIn}
 use Rattle.rule.specs.Spellings.{channelName, comparatorText, unaryText, binaryText}
-use Rattle.rule.specs.Trees.{Tree, compares, one, two, size, root, numbered, depth, operandText, spelling, mapOperand, mapTree}
+use Rattle.formula.specs.Trees.{Tree, compares, one, two, size, root, numbered, depth, mapOperand, mapTree}
+use Rattle.rule.specs.Written.{operandText, spelling}
 
 module _ {S : Type 0} (code : S → ℕ) (written : S → List ℕ) (text : List ℕ) where
   -- the parts of two lists, one beside the other

@@ -11,14 +11,14 @@ use Rattle.std.specs.declared.result.Result.{Result}
 use Rattle.std.specs.declared.result.Result.the-variants.{Ok, Err}
 use Rattle.std.specs.Vec.{refused}
 use Rattle.scale.specs.Marks.{RunByte}
-use Rattle.rule.specs.declared.parts.Comparator.{Comparator}
-use Rattle.rule.specs.declared.parts.Comparator.the-variants.{Less, Greater, AtMost, AtLeast}
-use Rattle.rule.specs.declared.parts.Operand.{Operand}
+use Rattle.formula.specs.declared.parts.Comparator.{Comparator}
+use Rattle.formula.specs.declared.parts.Comparator.the-variants.{Less, Greater, AtMost, AtLeast}
+use Rattle.formula.specs.declared.parts.Operand.{Operand}
 use Rattle.rule.specs.declared.readers.Cursor.{Cursor}
 use Rattle.rule.specs.Cursors.{Ahead, Digit, rest}
 use Rattle.rule.specs.Fronts.{NoFormula, Proper, Stops}
 use Rattle.rule.specs.Spellings.{comparatorText, decimal}
-use Rattle.rule.specs.Trees.{Tree, compares, one, two, size}
+use Rattle.formula.specs.Trees.{Tree, compares, one, two, size}
 use Rattle.rule.proofs.Numbering.{size-pos}
 use Rattle.rule.proofs.Once.{begins, flat-comparison, flat-one, flat-two, written}
 use Rattle.rule.proofs.Words.{digits, first, others, unary-apart}

@@ -4,12 +4,12 @@ use mathlib.Core.List.{List, [], _∷_, _++_}
 use Prim.Native.Nat.{ℕ, _+_, _≤_}
 use native.Mathlib.Omega.{arith}
 use lib.ListN.{length, length-append}
-use Rattle.rule.specs.declared.parts.Part.{Part}
-use Rattle.rule.specs.declared.parts.Part.the-variants.{Unary, Binary}
+use Rattle.formula.specs.declared.parts.Part.{Part}
+use Rattle.formula.specs.declared.parts.Part.the-variants.{Unary, Binary}
 use Rattle.rule.specs.declared.readers.Cursor.{Cursor}
 use Rattle.rule.specs.declared.readers.Run.{Run}
 use Rattle.rule.specs.Reads.{Reads}
-use Rattle.rule.specs.Trees.{Tree, compares, one, two, size, root, numbered}
+use Rattle.formula.specs.Trees.{Tree, compares, one, two, size, root, numbered}
 
 pub size-pos : {K : Type 0} (t : Tree K) → 1 ≤ size t
 size-pos (compares _ _ _) = omega arith

@@ -6,17 +6,18 @@ use Prim.Native.Nat.{ℕ, _+_, _≤_, _<_}
 use native.Mathlib.Omega.{arith}
 use lib.ListN.{length}
 use Rattle.scale.specs.Marks.{RunByte}
-use Rattle.rule.specs.declared.parts.BinaryOperator.{BinaryOperator}
-use Rattle.rule.specs.declared.parts.Comparator.{Comparator}
-use Rattle.rule.specs.declared.parts.Comparator.the-variants.{Less, Greater, AtMost, AtLeast}
-use Rattle.rule.specs.declared.parts.LimitName.{LimitName}
-use Rattle.rule.specs.declared.parts.LimitName.the-variants.{P, Q, R}
-use Rattle.rule.specs.declared.parts.Operand.{Operand}
-use Rattle.rule.specs.declared.parts.Operand.the-variants.{Limit, Channel, Constant}
-use Rattle.rule.specs.declared.parts.UnaryOperator.{UnaryOperator}
+use Rattle.formula.specs.declared.parts.BinaryOperator.{BinaryOperator}
+use Rattle.formula.specs.declared.parts.Comparator.{Comparator}
+use Rattle.formula.specs.declared.parts.Comparator.the-variants.{Less, Greater, AtMost, AtLeast}
+use Rattle.formula.specs.declared.parts.LimitName.{LimitName}
+use Rattle.formula.specs.declared.parts.LimitName.the-variants.{P, Q, R}
+use Rattle.formula.specs.declared.parts.Operand.{Operand}
+use Rattle.formula.specs.declared.parts.Operand.the-variants.{Limit, Channel, Constant}
+use Rattle.formula.specs.declared.parts.UnaryOperator.{UnaryOperator}
 use Rattle.rule.specs.Fronts.{Ends, Proper, ProperTree, Runny, spelledOut, Stops}
 use Rattle.rule.specs.Spellings.{binaryText, channelName, comparatorText, decimal, unaryText}
-use Rattle.rule.specs.Trees.{Tree, compares, one, two, operandText}
+use Rattle.formula.specs.Trees.{Tree, compares, one, two}
+use Rattle.rule.specs.Written.{operandText}
 use Rattle.rule.proofs.Words.{binary-once, channel-once, comparator-once, first, operand-once, others, run-once, unary-apart, unary-once}
 
 abbrev pub written : Operand (List ℕ) → List ℕ

@@ -6,16 +6,17 @@ use native.Mathlib.Omega.{arith}
 use lib.ListN.{length}
 use Rattle.std.specs.shelf.Lists.{All}
 use Rattle.scale.specs.Marks.{Apart, RunByte, RunText}
-use Rattle.rule.specs.declared.parts.BinaryOperator.{BinaryOperator}
-use Rattle.rule.specs.declared.parts.Comparator.{Comparator}
-use Rattle.rule.specs.declared.parts.LimitName.{LimitName}
-use Rattle.rule.specs.declared.parts.Operand.{Operand}
-use Rattle.rule.specs.declared.parts.Operand.the-variants.{Limit, Channel, Constant}
-use Rattle.rule.specs.declared.parts.Part.{Part}
-use Rattle.rule.specs.declared.parts.UnaryOperator.{UnaryOperator}
+use Rattle.formula.specs.declared.parts.BinaryOperator.{BinaryOperator}
+use Rattle.formula.specs.declared.parts.Comparator.{Comparator}
+use Rattle.formula.specs.declared.parts.LimitName.{LimitName}
+use Rattle.formula.specs.declared.parts.Operand.{Operand}
+use Rattle.formula.specs.declared.parts.Operand.the-variants.{Limit, Channel, Constant}
+use Rattle.formula.specs.declared.parts.Part.{Part}
+use Rattle.formula.specs.declared.parts.UnaryOperator.{UnaryOperator}
 use Rattle.rule.specs.Rules.{Says, SaysOnly, Sayable, Spellable}
 use Rattle.rule.specs.Spellings.{binaryText, channelName, comparatorText, unaryText}
-use Rattle.rule.specs.Trees.{Tree, compares, one, two, mapOperand, mapTree, numbered, operandText, spelling}
+use Rattle.formula.specs.Trees.{Tree, compares, one, two, mapOperand, mapTree, numbered}
+use Rattle.rule.specs.Written.{operandText, spelling}
 use Rattle.rule.specs.Fronts.{Ends, Proper, ProperTree, Runny, spelledOut}
 use Rattle.rule.proofs.Once.{once}
 

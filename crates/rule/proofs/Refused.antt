@@ -10,12 +10,12 @@ use Rattle.std.specs.Vec.{made, refused}
 use Rattle.scale.specs.declared.faults.ScaleFault.{ScaleFault}
 use Rattle.rule.specs.declared.faults.TextFault.{TextFault}
 use Rattle.rule.specs.declared.faults.TextFault.the-variants.{Length, Form, Brackets, Parts, Scale}
-use Rattle.rule.specs.declared.parts.Comparator.the-variants.{Less}
-use Rattle.rule.specs.declared.parts.LimitName.the-variants.{P}
-use Rattle.rule.specs.declared.parts.Operand.{Operand}
-use Rattle.rule.specs.declared.parts.Operand.the-variants.{Limit, Channel, Constant}
-use Rattle.rule.specs.declared.parts.Part.{Part}
-use Rattle.rule.specs.declared.parts.Part.the-variants.{Comparison, Unary, Binary}
+use Rattle.formula.specs.declared.parts.Comparator.the-variants.{Less}
+use Rattle.formula.specs.declared.parts.LimitName.the-variants.{P}
+use Rattle.formula.specs.declared.parts.Operand.{Operand}
+use Rattle.formula.specs.declared.parts.Operand.the-variants.{Limit, Channel, Constant}
+use Rattle.formula.specs.declared.parts.Part.{Part}
+use Rattle.formula.specs.declared.parts.Part.the-variants.{Comparison, Unary, Binary}
 use Rattle.rule.specs.declared.readers.Run.{Run}
 use Rattle.rule.specs.Codings.{FirstUnread, UnreadOperand, UnreadPart}
 use Rattle.rule.specs.Faults.{Blames}

@@ -9,12 +9,12 @@ use Rattle.std.specs.declared.result.Result.the-variants.{Ok, Err}
 use Rattle.std.specs.Vec.{made, refused}
 use Rattle.scale.specs.declared.faults.ScaleFault.{ScaleFault}
 use Rattle.scale.specs.Marks.{RunText}
-use Rattle.rule.specs.declared.parts.Comparator.the-variants.{Less}
-use Rattle.rule.specs.declared.parts.LimitName.the-variants.{P}
-use Rattle.rule.specs.declared.parts.Operand.{Operand}
-use Rattle.rule.specs.declared.parts.Operand.the-variants.{Limit, Channel, Constant}
-use Rattle.rule.specs.declared.parts.Part.{Part}
-use Rattle.rule.specs.declared.parts.Part.the-variants.{Comparison, Unary, Binary}
+use Rattle.formula.specs.declared.parts.Comparator.the-variants.{Less}
+use Rattle.formula.specs.declared.parts.LimitName.the-variants.{P}
+use Rattle.formula.specs.declared.parts.Operand.{Operand}
+use Rattle.formula.specs.declared.parts.Operand.the-variants.{Limit, Channel, Constant}
+use Rattle.formula.specs.declared.parts.Part.{Part}
+use Rattle.formula.specs.declared.parts.Part.the-variants.{Comparison, Unary, Binary}
 use Rattle.rule.specs.declared.readers.Cursor.{Cursor}
 use Rattle.rule.specs.declared.readers.Run.{Run}
 use Rattle.rule.specs.Codings.{FirstUnread, UnreadOperand, UnreadPart}
@@ -23,7 +23,7 @@ use Rattle.rule.specs.Fronts.{Ends, NoFormula, NoWhole, spelledOut}
 use Rattle.rule.specs.Reads.{Spelt}
 use Rattle.rule.specs.Rules.{Says, Unsaid}
 use Rattle.rule.specs.Runs.{bytesIn}
-use Rattle.rule.specs.Trees.{Tree, compares, one, two, depth, mapOperand, mapTree, numbered, root, size}
+use Rattle.formula.specs.Trees.{Tree, compares, one, two, depth, mapOperand, mapTree, numbered, root, size}
 use Rattle.rule.proofs.Absent.{Front, front-proper, size-mapped}
 use Rattle.rule.proofs.Once.{once}
 use Rattle.rule.proofs.Only.{proper, written-out}

@@ -7,19 +7,19 @@ use Prim.Native.Nat.{ℕ, _+_, _≤_, _<_}
 use native.Mathlib.Omega.{arith}
 use Rattle.std.proofs.shelf.Tests.{cases-lt}
 use Rattle.scale.specs.Marks.{RunByte}
-use Rattle.rule.specs.declared.parts.LimitName.{LimitName}
-use Rattle.rule.specs.declared.parts.LimitName.the-variants.{P, Q, R}
-use Rattle.rule.specs.declared.parts.Comparator.{Comparator}
-use Rattle.rule.specs.declared.parts.Comparator.the-variants.{Less, Greater, AtMost, AtLeast}
-use Rattle.rule.specs.declared.parts.UnaryOperator.{UnaryOperator}
-use Rattle.rule.specs.declared.parts.UnaryOperator.the-variants.{Not, Next, Finally, Globally}
-use Rattle.rule.specs.declared.parts.BinaryOperator.{BinaryOperator}
-use Rattle.rule.specs.declared.parts.BinaryOperator.the-variants.{Until, WeakUntil, And, Or, Implies}
-use Rattle.rule.specs.declared.parts.Operand.{Operand}
-use Rattle.rule.specs.declared.parts.Operand.the-variants.{Limit, Channel, Constant}
+use Rattle.formula.specs.declared.parts.LimitName.{LimitName}
+use Rattle.formula.specs.declared.parts.LimitName.the-variants.{P, Q, R}
+use Rattle.formula.specs.declared.parts.Comparator.{Comparator}
+use Rattle.formula.specs.declared.parts.Comparator.the-variants.{Less, Greater, AtMost, AtLeast}
+use Rattle.formula.specs.declared.parts.UnaryOperator.{UnaryOperator}
+use Rattle.formula.specs.declared.parts.UnaryOperator.the-variants.{Not, Next, Finally, Globally}
+use Rattle.formula.specs.declared.parts.BinaryOperator.{BinaryOperator}
+use Rattle.formula.specs.declared.parts.BinaryOperator.the-variants.{Until, WeakUntil, And, Or, Implies}
+use Rattle.formula.specs.declared.parts.Operand.{Operand}
+use Rattle.formula.specs.declared.parts.Operand.the-variants.{Limit, Channel, Constant}
 use Rattle.rule.specs.Fronts.{Runny, Stops, Proper}
 use Rattle.rule.specs.Spellings.{decimal, channelName, limitText, comparatorText, unaryText, binaryText}
-use Rattle.rule.specs.Trees.{operandText}
+use Rattle.rule.specs.Written.{operandText}
 
 abbrev pub first : List ℕ → ℕ
 first [] = 0

@@ -4,10 +4,11 @@ use mathlib.Core.Path.{_≡_}
 use Prim.Native.Nat.{ℕ, _≤_, _<_}
 use lib.ListN.{length}
 use Rattle.scale.specs.Marks.{RunByte}
-use Rattle.rule.specs.declared.parts.Operand.{Operand}
-use Rattle.rule.specs.declared.parts.Operand.the-variants.{Limit, Channel, Constant}
+use Rattle.formula.specs.declared.parts.Operand.{Operand}
+use Rattle.formula.specs.declared.parts.Operand.the-variants.{Limit, Channel, Constant}
 use Rattle.rule.specs.Operands.{Unnamed}
-use Rattle.rule.specs.Trees.{Tree, compares, one, two, size, depth, spelling}
+use Rattle.formula.specs.Trees.{Tree, compares, one, two, size, depth}
+use Rattle.rule.specs.Written.{spelling}
 
 -- bytes that are all of a run
 abbrev pub Runny : List ℕ → Type 0

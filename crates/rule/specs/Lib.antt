@@ -1,13 +1,10 @@
 pub mod Codings
 pub mod Cursors
 pub mod Faults
-pub mod Formulas
 pub mod Fronts
 pub mod Operands
-pub mod Orders
-pub mod Parts
 pub mod Reads
 pub mod Rules
 pub mod Runs
 pub mod Spellings
-pub mod Trees
+pub mod Written

@@ -3,17 +3,18 @@ use mathlib.Core.List.{List, _++_}
 use mathlib.Core.Path.{_≡_}
 use Prim.Native.Nat.{ℕ, _≤_, _<_}
 use lib.ListN.{length, getD}
-use Rattle.rule.specs.declared.parts.Part.{Part}
-use Rattle.rule.specs.declared.parts.Part.the-variants.{Comparison, Unary, Binary}
-use Rattle.rule.specs.declared.parts.Operand.{Operand}
-use Rattle.rule.specs.declared.parts.Operand.the-variants.{Limit, Channel, Constant}
+use Rattle.formula.specs.declared.parts.Part.{Part}
+use Rattle.formula.specs.declared.parts.Part.the-variants.{Comparison, Unary, Binary}
+use Rattle.formula.specs.declared.parts.Operand.{Operand}
+use Rattle.formula.specs.declared.parts.Operand.the-variants.{Limit, Channel, Constant}
 use Rattle.rule.specs.declared.readers.Cursor.{Cursor}
 use Rattle.rule.specs.declared.readers.Run.{Run}
 use Rattle.scale.specs.Marks.{RunByte}
 use Rattle.rule.specs.Cursors.{Ahead, Passes}
 use Rattle.rule.specs.Operands.{Unnamed}
 use Rattle.rule.specs.Runs.{IsRun, bytesIn}
-use Rattle.rule.specs.Trees.{Tree, compares, one, two, size, root, numbered, depth, spelling}
+use Rattle.formula.specs.Trees.{Tree, compares, one, two, size, root, numbered, depth}
+use Rattle.rule.specs.Written.{spelling}
 
 -- an operand that the text has: a channel that there is, or a constant that is a run of the text and names nothing else
 abbrev pub Stands : List ℕ → Operand Run → Type 0

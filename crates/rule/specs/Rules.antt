@@ -3,9 +3,9 @@ use mathlib.Core.List.{List}
 use mathlib.Core.Path.{_≡_}
 use Prim.Native.Nat.{ℕ, _≤_, _<_}
 use lib.ListN.{length}
-use Rattle.rule.specs.declared.parts.Operand.{Operand}
-use Rattle.rule.specs.declared.parts.Operand.the-variants.{Limit, Channel, Constant}
-use Rattle.rule.specs.declared.parts.Part.{Part}
+use Rattle.formula.specs.declared.parts.Operand.{Operand}
+use Rattle.formula.specs.declared.parts.Operand.the-variants.{Limit, Channel, Constant}
+use Rattle.formula.specs.declared.parts.Part.{Part}
 use Rattle.rule.specs.declared.faults.TextFault.{TextFault}
 use Rattle.rule.specs.declared.faults.TextFault.the-variants.{Length, Form, Brackets, Parts, Scale}
 use Rattle.rule.specs.declared.readers.Run.{Run}
@@ -13,10 +13,11 @@ use Rattle.rule.specs.declared.rules.Rule.{Rule}
 use Rattle.scale.specs.declared.faults.ScaleFault.{ScaleFault}
 use Rattle.scale.specs.declared.faults.ScaleFault.the-variants.{Unread}
 use Rattle.rule.specs.Faults.{Blames}
-use Rattle.rule.specs.Formulas.{partsOf}
+use Rattle.formula.specs.Formulas.{partsOf}
 use Rattle.rule.specs.Operands.{Unnamed}
 use Rattle.rule.specs.Runs.{bytesIn, IsRun}
-use Rattle.rule.specs.Trees.{Tree, compares, one, two, size, numbered, depth, spelling, mapTree}
+use Rattle.formula.specs.Trees.{Tree, compares, one, two, size, numbered, depth, mapTree}
+use Rattle.rule.specs.Written.{spelling}
 
 -- the parts of a rule, with codes for constants
 abbrev pub ruleParts : Rule → List (Part ℕ)

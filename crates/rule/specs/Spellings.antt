@@ -6,14 +6,14 @@ use mathlib.Core.Path.{_≡_}
 use Prim.Native.Nat.{ℕ, _+_, _≤_}
 use lib.Chars.{codes}
 use lib.Dec.{ltb}
-use Rattle.rule.specs.declared.parts.LimitName.{LimitName}
-use Rattle.rule.specs.declared.parts.LimitName.the-variants.{P, Q, R}
-use Rattle.rule.specs.declared.parts.Comparator.{Comparator}
-use Rattle.rule.specs.declared.parts.Comparator.the-variants.{Less, Greater, AtMost, AtLeast}
-use Rattle.rule.specs.declared.parts.UnaryOperator.{UnaryOperator}
-use Rattle.rule.specs.declared.parts.UnaryOperator.the-variants.{Not, Next, Finally, Globally}
-use Rattle.rule.specs.declared.parts.BinaryOperator.{BinaryOperator}
-use Rattle.rule.specs.declared.parts.BinaryOperator.the-variants.{Until, WeakUntil, And, Or, Implies}
+use Rattle.formula.specs.declared.parts.LimitName.{LimitName}
+use Rattle.formula.specs.declared.parts.LimitName.the-variants.{P, Q, R}
+use Rattle.formula.specs.declared.parts.Comparator.{Comparator}
+use Rattle.formula.specs.declared.parts.Comparator.the-variants.{Less, Greater, AtMost, AtLeast}
+use Rattle.formula.specs.declared.parts.UnaryOperator.{UnaryOperator}
+use Rattle.formula.specs.declared.parts.UnaryOperator.the-variants.{Not, Next, Finally, Globally}
+use Rattle.formula.specs.declared.parts.BinaryOperator.{BinaryOperator}
+use Rattle.formula.specs.declared.parts.BinaryOperator.the-variants.{Until, WeakUntil, And, Or, Implies}
 
 -- a number below 20 in decimal, without leading zero
 abbrev pub decimal : ℕ → List ℕ

@@ -3,13 +3,14 @@ ghost use mathlib.Core.Path.{_≡_};
 ghost use lib.ListN.{length};
 ghost use Rattle.std.specs.Results.{Cases};
 ghost use Rattle.rule.specs.Codings.{AllCoded, CodedOperand, CodedPart, FirstUnread, UnreadOperand, UnreadPart};
-ghost use Rattle.rule.specs.Formulas.{partsOf};
-ghost use Rattle.rule.specs.Orders.{reach};
+ghost use Rattle.formula.specs.Formulas.{partsOf};
+ghost use Rattle.formula.specs.Orders.{reach};
 ghost use Rattle.rule.specs.Reads.{AllDrawn, Drawn, Stands};
-use crate::formulas::Formula;
-use crate::parts::Operand;
-use crate::parts::Part;
+use crate::appending::append;
 use crate::readers::Run;
+use formula::Formula;
+use formula::Operand;
+use formula::Part;
 use scale::Scale;
 use scale::ScaleFault;
 
@@ -70,7 +71,7 @@ pub fn code_parts<S: Scale>(
     let parts = draft.parts();
     for part in parts {
         let coded = coded_part::<S>(text, *part)?;
-        fresh.append(coded);
+        append(fresh, coded);
     }
     Ok(())
 }

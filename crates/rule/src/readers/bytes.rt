@@ -9,8 +9,8 @@ ghost use Rattle.std.specs.Orderings.{When};
 ghost use Rattle.std.specs.Results.{Cases};
 ghost use Rattle.rule.specs.Cursors.{Ahead, Meets, Passes};
 use crate::faults::TextFault;
-use crate::formulas::MAX_PARTS;
 use crate::readers::Cursor;
+use formula::MAX_PARTS;
 
 impl Cursor<'_> {
     // The next byte, or none at the text's end.

@@ -9,21 +9,22 @@ ghost use Rattle.scale.specs.Marks.{RunByte};
 ghost use Rattle.rule.specs.Cursors.{Ahead, Digit, Passes, rest};
 ghost use Rattle.std.specs.Vec.{made, refused};
 ghost use Rattle.rule.specs.Faults.{Blames};
-ghost use Rattle.rule.specs.Formulas.{partsOf};
+ghost use Rattle.formula.specs.Formulas.{partsOf};
 ghost use Rattle.rule.specs.Fronts.{NoFormula};
 ghost use Rattle.rule.specs.Operands.{MeantBy};
 ghost use Rattle.rule.specs.Reads.{AllDrawn, Reads, Stands};
-ghost use Rattle.rule.specs.Trees.{operandText};
+ghost use Rattle.rule.specs.Written.{operandText};
 ghost use Rattle.rule.specs.Runs.{IsRun, bytesIn};
 ghost use Rattle.rule.specs.Spellings.{decimal, comparatorText};
+use crate::appending::append;
 use crate::faults::TextFault;
-use crate::formulas::Formula;
-use crate::parts::Comparator;
-use crate::parts::LimitName;
-use crate::parts::Operand;
-use crate::parts::Part;
 use crate::readers::Cursor;
 use crate::readers::Run;
+use formula::Comparator;
+use formula::Formula;
+use formula::LimitName;
+use formula::Operand;
+use formula::Part;
 
 impl Cursor<'_> {
     // The number of a channel, 0 to 15 without leading zero.
@@ -112,11 +113,14 @@ impl Cursor<'_> {
         let channel = self.channel_number()?;
         let comparator = self.comparator()?;
         let operand = self.operand()?;
-        Ok(out.append(Part::Comparison {
-            channel,
-            comparator,
-            operand,
-        }))
+        Ok(append(
+            out,
+            Part::Comparison {
+                channel,
+                comparator,
+                operand,
+            },
+        ))
     }
 }
 

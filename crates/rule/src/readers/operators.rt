@@ -5,15 +5,15 @@ ghost use mathlib.Core.Logic.{_⊎_};
 ghost use Prim.Native.Nat.{_+_};
 ghost use Rattle.std.specs.Options.{Cases as BySome};
 ghost use Rattle.std.specs.Results.{Cases};
-ghost use Rattle.rule.specs.declared.parts.BinaryOperator.{BinaryOperator};
-ghost use Rattle.rule.specs.declared.parts.UnaryOperator.{UnaryOperator};
+ghost use Rattle.formula.specs.declared.parts.BinaryOperator.{BinaryOperator};
+ghost use Rattle.formula.specs.declared.parts.UnaryOperator.{UnaryOperator};
 ghost use Rattle.rule.specs.Cursors.{Ahead, NoOperator, Passes};
 ghost use Rattle.rule.specs.Faults.{Blames};
 ghost use Rattle.rule.specs.Spellings.{binaryText, firstOf, unaryText};
 use crate::faults::TextFault;
-use crate::parts::BinaryOperator;
-use crate::parts::UnaryOperator;
 use crate::readers::Cursor;
+use formula::BinaryOperator;
+use formula::UnaryOperator;
 
 // The operator over one operand that a byte stands for, if any.
 pub fn unary_operator(byte: u8) -> Option<UnaryOperator>

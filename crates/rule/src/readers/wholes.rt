@@ -4,15 +4,16 @@ ghost use lib.ListN.{length};
 ghost use Rattle.std.specs.Vec.{made, refused};
 ghost use Rattle.rule.specs.Cursors.{rest};
 ghost use Rattle.rule.specs.Faults.{Blames};
-ghost use Rattle.rule.specs.Formulas.{partsOf};
+ghost use Rattle.formula.specs.Formulas.{partsOf};
 ghost use Rattle.rule.specs.Fronts.{NoFormula, NoWhole};
 ghost use Rattle.rule.specs.Reads.{AllDrawn, Reads, Spelt};
+use crate::appending::append;
 use crate::faults::TextFault;
-use crate::formulas::Formula;
-use crate::parts::Part;
 use crate::readers::Cursor;
 use crate::readers::Run;
 use crate::readers::operators::unary_operator;
+use formula::Formula;
+use formula::Part;
 
 // The most brackets that may be open at once.
 const MAX_BRACKETS: usize = 12;
@@ -38,7 +39,7 @@ fn formula(cursor: &mut Cursor<'_>, left: usize, out: &mut Formula<Run>) -> Resu
         cursor.open(left)?;
         let operand = formula(cursor, left - 1, out)?;
         cursor.expect(b')')?;
-        return Ok(out.append(Part::Unary { operator, operand }));
+        return Ok(append(out, Part::Unary { operator, operand }));
     }
     cursor.open(left)?;
     let left_operand = formula(cursor, left - 1, out)?;
@@ -47,11 +48,14 @@ fn formula(cursor: &mut Cursor<'_>, left: usize, out: &mut Formula<Run>) -> Resu
     cursor.open(left)?;
     let right_operand = formula(cursor, left - 1, out)?;
     cursor.expect(b')')?;
-    Ok(out.append(Part::Binary {
-        operator,
-        left: left_operand,
-        right: right_operand,
-    }))
+    Ok(append(
+        out,
+        Part::Binary {
+            operator,
+            left: left_operand,
+            right: right_operand,
+        },
+    ))
 }
 
 // Reads a whole text. The parts that were read stay in `out` also where the text is refused.

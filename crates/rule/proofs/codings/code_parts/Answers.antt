@@ -5,11 +5,11 @@ use Prim.Native.Nat.{_<_}
 use lib.ListN.{length, getD}
 use Rattle.std.proofs.shelf.Lists.{getD-default}
 use Rattle.std.proofs.shelf.Results.{err-from-errBy}
-use Rattle.rule.specs.declared.parts.Part.{Part}
-use Rattle.rule.specs.declared.parts.Part.the-variants.{Comparison}
-use Rattle.rule.specs.declared.parts.Comparator.the-variants.{Less}
-use Rattle.rule.specs.declared.parts.Operand.the-variants.{Limit}
-use Rattle.rule.specs.declared.parts.LimitName.the-variants.{P}
+use Rattle.formula.specs.declared.parts.Part.{Part}
+use Rattle.formula.specs.declared.parts.Part.the-variants.{Comparison}
+use Rattle.formula.specs.declared.parts.Comparator.the-variants.{Less}
+use Rattle.formula.specs.declared.parts.Operand.the-variants.{Limit}
+use Rattle.formula.specs.declared.parts.LimitName.the-variants.{P}
 use Rattle.rule.specs.declared.readers.Run.{Run}
 use Rattle.rule.specs.Codings.{FirstUnread}
 use Rattle.rule.proofs.Coded.{coded-more, first-unread}

@@ -1,10 +1,10 @@
 use mathlib.Core.Path.{_≡_}
 use Prim.Native.Nat.{ℕ, _<_}
 use lib.ListN.{length, getD}
-use Rattle.rule.specs.declared.parts.Part.{Part}
+use Rattle.formula.specs.declared.parts.Part.{Part}
 use Rattle.rule.specs.declared.readers.Run.{Run}
 use Rattle.rule.specs.Codings.{CodedPart}
-use Rattle.rule.specs.Formulas.{partsOf}
+use Rattle.formula.specs.Formulas.{partsOf}
 use Rattle.rule.proofs.codings.code_parts.Given as given
 
 -- the parts before this one are coded

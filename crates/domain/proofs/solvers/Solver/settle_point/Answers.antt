@@ -1,7 +1,7 @@
 use mathlib.Core.Path.{ap}
 use Prim.Native.Nat.{_≤_}
 use native.Mathlib.Omega.{arith}
-use Rattle.rule.specs.Orders.{reach}
+use Rattle.formula.specs.Orders.{reach}
 use Rattle.domain.specs.Steps.{span}
 use Rattle.domain.proofs.Reaching.{step-within}
 use Rattle.domain.proofs.solvers.Solver.settle_point.Needs as need

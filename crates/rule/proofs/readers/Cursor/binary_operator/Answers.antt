@@ -6,7 +6,7 @@ use native.Mathlib.Omega.{arith}
 use lib.ListN.{length}
 use denote.Ref.{RefT}
 use Rattle.std.proofs.shelf.Results.{err-from-errBy}
-use Rattle.rule.specs.declared.parts.BinaryOperator.{BinaryOperator}
+use Rattle.formula.specs.declared.parts.BinaryOperator.{BinaryOperator}
 use Rattle.rule.specs.Cursors.{rest}
 use Rattle.rule.specs.Faults.{Blames}
 use Rattle.rule.specs.Spellings.{firstOf}

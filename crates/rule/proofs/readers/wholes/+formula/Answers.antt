@@ -8,7 +8,7 @@ use denote.Ref.{RefT}
 use Rattle.rule.specs.Cursors.{rest}
 use Rattle.rule.specs.Fronts.{NoFormula}
 use Rattle.rule.specs.Spellings.{unaryText}
-use Rattle.rule.specs.Trees.{size}
+use Rattle.formula.specs.Trees.{size}
 use Rattle.rule.proofs.Absent.{binary-after, binary-deep, binary-left, binary-unclosed, binary-unopened, front-of, no-start, other, right-inner, right-unclosed, right-unopened, unary-deep, unary-inner, unary-unclosed, unary-unopened}
 use Rattle.rule.proofs.Composed.{unary-read, binary-read}
 use Rattle.rule.proofs.Drawing.{drawn-more, drawn-in}

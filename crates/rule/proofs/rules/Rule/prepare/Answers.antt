@@ -1,7 +1,7 @@
 use mathlib.Core.Path.{refl, sym, subst}
 use Rattle.std.proofs.shelf.Results.{err-from-errBy}
 use Rattle.rule.specs.declared.faults.TextFault.{TextFault}
-use Rattle.rule.specs.Formulas.{partsOf}
+use Rattle.formula.specs.Formulas.{partsOf}
 use Rattle.rule.specs.Rules.{Refuses}
 use Rattle.rule.proofs.Marking.{says}
 use Rattle.rule.proofs.Only.{says-only}

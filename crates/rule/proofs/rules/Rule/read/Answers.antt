@@ -1,7 +1,7 @@
 use mathlib.Core.Path.{sym, subst}
 use Prim.Native.Nat.{ℕ}
-use Rattle.rule.specs.declared.formulas.Formula.{Formula}
-use Rattle.rule.specs.Formulas.{partsOf}
+use Rattle.formula.specs.declared.formulas.Formula.{Formula}
+use Rattle.formula.specs.Formulas.{partsOf}
 use Rattle.rule.specs.Rules.{SaysOnly}
 use Rattle.rule.proofs.rules.Rule.read.Needs as need
 

@@ -1,8 +1,8 @@
 // The parts that a formula is made of: comparisons, and operators over parts with lower numbers.
 ghost use mathlib.Core.Path.{_≡_};
 ghost use lib.Dec.{leb};
-ghost use Rattle.rule.specs.Orders.{reach};
-ghost use Rattle.rule.specs.Parts.{limitIndex, opposed};
+ghost use Rattle.formula.specs.Orders.{reach};
+ghost use Rattle.formula.specs.Parts.{limitIndex, opposed};
 
 // A limit that the rule leaves open.
 #[derive(Clone, Copy, PartialEq, Eq, Debug)]

@@ -1,15 +1,13 @@
--- Formulas as trees: their parts, their spelling and their depth. Assumes nothing.
+-- Formulas as trees: their parts and their depth. Assumes nothing.
 use mathlib.Core.List.{List, [], _∷_, _++_}
 use Prim.Native.Nat.{ℕ, _+_, _-_, max}
-use lib.Chars.{codes}
-use Rattle.rule.specs.declared.parts.Comparator.{Comparator}
-use Rattle.rule.specs.declared.parts.UnaryOperator.{UnaryOperator}
-use Rattle.rule.specs.declared.parts.BinaryOperator.{BinaryOperator}
-use Rattle.rule.specs.declared.parts.Operand.{Operand}
-use Rattle.rule.specs.declared.parts.Operand.the-variants.{Limit, Channel, Constant}
-use Rattle.rule.specs.declared.parts.Part.{Part}
-use Rattle.rule.specs.declared.parts.Part.the-variants.{Comparison, Unary, Binary}
-use Rattle.rule.specs.Spellings.{limitText, channelName, comparatorText, unaryText, binaryText}
+use Rattle.formula.specs.declared.parts.Comparator.{Comparator}
+use Rattle.formula.specs.declared.parts.UnaryOperator.{UnaryOperator}
+use Rattle.formula.specs.declared.parts.BinaryOperator.{BinaryOperator}
+use Rattle.formula.specs.declared.parts.Operand.{Operand}
+use Rattle.formula.specs.declared.parts.Operand.the-variants.{Limit, Channel, Constant}
+use Rattle.formula.specs.declared.parts.Part.{Part}
+use Rattle.formula.specs.declared.parts.Part.the-variants.{Comparison, Unary, Binary}
 
 -- a comparison, or an operator over its operands; K is the kind of constants
 pub data Tree (K : Type 0) : Type 0 where
@@ -39,19 +37,6 @@ module _ {K : Type 0} where
   depth (compares _ _ _) = 0
   depth (one _ t) = depth t + 1
   depth (two _ l r) = max (depth l) (depth r) + 1
-
-  module _ (constant : K → List ℕ) where
-    -- how an operand is written
-    abbrev pub operandText : Operand K → List ℕ
-    operandText (Limit l) = limitText l
-    operandText (Channel n) = channelName n
-    operandText (Constant k) = constant k
-
-    -- how a formula is written, each operand of an operator in brackets of its own
-    abbrev pub spelling : Tree K → List ℕ
-    spelling (compares channel comparator operand) = channelName channel ++ (comparatorText comparator ++ operandText operand)
-    spelling (one op t) = unaryText op ++ (codes "(" ++ (spelling t ++ codes ")"))
-    spelling (two op l r) = codes "(" ++ (spelling l ++ (codes ")" ++ (binaryText op ++ (codes "(" ++ (spelling r ++ codes ")")))))
 
 -- the same operand with another kind of constant
 abbrev pub mapOperand : {K L : Type 0} → (K → L) → Operand K → Operand L

@@ -3,9 +3,9 @@ use mathlib.Core.Path.{sym, subst}
 use Prim.Native.Nat.{_≤_}
 use lib.ListN.{length}
 use Rattle.std.specs.Of.Vec.{vec-items}
-use Rattle.rule.specs.Orders.{reach, Ordered}
-use Rattle.rule.proofs.Extends.{ordered-more}
-use Rattle.rule.proofs.formulas.Formula.append.Needs as need
+use Rattle.formula.specs.Orders.{reach, Ordered}
+use Rattle.formula.proofs.Extends.{ordered-more}
+use Rattle.formula.proofs.formulas.Formula.append.Needs as need
 
 -- the parts with one more at their end are ordered
 pub ghost-self : need.ghost-self

@@ -7,8 +7,8 @@ use Rattle.std.proofs.shelf.Tests.{cases-lt}
 use native.Mathlib.Omega.{arith}
 use lib.ListN.{length, getD}
 use Rattle.std.proofs.shelf.Lists.{getD-append-left, getD-push, length-push}
-use Rattle.rule.specs.declared.parts.Part.{Part}
-use Rattle.rule.specs.Orders.{reach, Ordered}
+use Rattle.formula.specs.declared.parts.Part.{Part}
+use Rattle.formula.specs.Orders.{reach, Ordered}
 
 pub ordered-more : {K : Type 0} (parts : List (Part K)) (part : Part K) → Ordered parts → reach part ≤ length parts → Ordered (parts ++ part ∷ [])
 ordered-more parts part old after i d below =

@@ -6,8 +6,8 @@ ghost use lib.ListN.{length};
 ghost use lib.Dec.{eqb};
 ghost use Rattle.std.specs.Orderings.{When};
 ghost use Rattle.std.specs.Vec.{made};
-ghost use Rattle.rule.specs.Formulas.{partsOf};
-ghost use Rattle.rule.specs.Orders.{Fits, Ordered};
+ghost use Rattle.formula.specs.Formulas.{partsOf};
+ghost use Rattle.formula.specs.Orders.{Fits, Ordered};
 use crate::formulas::Formula;
 use crate::formulas::MAX_PARTS;
 use crate::parts::Part;
@@ -62,7 +62,7 @@ impl<K: Copy> Formula<K> {
     }
 
     // Adds a part after the others, where it fits, and answers its number.
-    pub(crate) fn append(&mut self, part: Part<K>) -> usize
+    fn append(&mut self, part: Part<K>) -> usize
         requires { ⌜ Fits part (partsOf (now self)) ⌝ }
         ensures items { λ _. ⌜ partsOf (now (self .exit)) ≡ partsOf (now (self .entry)) ++ part ∷ [] ⌝ }
         ensures value { λ r. ⌜ r ≡ length (partsOf (now (self .entry))) ⌝ }

@@ -1,9 +1,9 @@
 -- What the words of a part stand for. Assumes nothing.
 use Prim.Native.Nat.{ℕ}
-use Rattle.rule.specs.declared.parts.LimitName.{LimitName}
-use Rattle.rule.specs.declared.parts.LimitName.the-variants.{P, Q, R}
-use Rattle.rule.specs.declared.parts.Comparator.{Comparator}
-use Rattle.rule.specs.declared.parts.Comparator.the-variants.{Less, Greater, AtMost, AtLeast}
+use Rattle.formula.specs.declared.parts.LimitName.{LimitName}
+use Rattle.formula.specs.declared.parts.LimitName.the-variants.{P, Q, R}
+use Rattle.formula.specs.declared.parts.Comparator.{Comparator}
+use Rattle.formula.specs.declared.parts.Comparator.the-variants.{Less, Greater, AtMost, AtLeast}
 
 -- the place of a limit among the three
 abbrev pub limitIndex : LimitName → ℕ

@@ -2,7 +2,7 @@
 // whole formula, and a formula without parts is blank.
 ghost use Prim.Native.Nat.{_≤_};
 ghost use Rattle.std.specs.Of.Vec.{vec-items, vec-len, vec-cap};
-ghost use Rattle.rule.specs.Orders.{Ordered};
+ghost use Rattle.formula.specs.Orders.{Ordered};
 use crate::parts::Part;
 
 mod methods;

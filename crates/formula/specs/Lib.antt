@@ -1,0 +1,4 @@
+pub mod Formulas
+pub mod Orders
+pub mod Parts
+pub mod Trees
