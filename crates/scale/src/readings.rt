@@ -1,9 +1,9 @@
 // The scale of readings.
 ghost use mathlib.Core.Path.{_≡_};
 ghost use lib.IntN.{pos};
-ghost use Rattle.std.specs.Options.{Cases};
-ghost use Rattle.scale.specs.Cuts.{Picks};
+ghost use Rattle.std.specs.declared.option.Option.the-variants.{Some};
 ghost use Rattle.scale.specs.Numbered.{Leans};
+ghost use Rattle.scale.specs.declared.values.Reading.{Reading};
 ghost use Rattle.scale.specs.Readings.{held, valueOf, readingRank, readingCode, readingNamed, readingText, readingPicked};
 use crate::cuts::Cut;
 use crate::held::Word;
@@ -12,6 +12,7 @@ use crate::numbered::Row;
 use crate::numbered::pick_number;
 use crate::scales::Scale;
 use crate::values::Reading;
+use crate::words::same_bytes;
 
 impl Reading {
     pub fn new(value: i32) -> Reading
@@ -25,6 +26,26 @@ impl Reading {
     {
         self.value
     }
+}
+
+// The reading of a number.
+fn reading_of(number: i32) -> Reading
+    ensures { λ r. ⌜ r ≡ held number ⌝ }
+{
+    Reading::new(number)
+}
+
+// The reading that has this text, if one has; of other texts it may be any reading.
+fn parsed(run: &[u8]) -> Option<Reading>
+    ensures { λ r. ⌜ ((m : Reading) → readingText m ≡ now (run .entry) → r ≡ Some m) ⌝ }
+{
+    let Ok(digits) = std::str::from_utf8(run) else {
+        return None;
+    };
+    let Ok(number) = digits.parse::<i32>() else {
+        return None;
+    };
+    Some(Reading::new(number))
 }
 
 impl Numbered for Reading as ReadingNumbered {
@@ -57,11 +78,11 @@ pub impl Scale for Reading as ReadingScale {
     }
 
     fn of_code(number: u32) -> Option<Reading> {
-        Some(Reading::new(number.cast_signed()))
+        Some(reading_of(number.cast_signed()))
     }
 
     fn rest() -> Reading {
-        Reading::new(0)
+        reading_of(0)
     }
 
     fn to_text(self) -> Word {
@@ -74,15 +95,9 @@ pub impl Scale for Reading as ReadingScale {
 
     // Only the text that is written of a number is read, so what is parsed is written again and compared.
     fn of_text(run: &[u8]) -> Option<Reading> {
-        let Ok(digits) = std::str::from_utf8(run) else {
-            return None;
-        };
-        let Ok(value) = digits.parse::<i32>() else {
-            return None;
-        };
-        let mark = Reading::new(value);
+        let mark = parsed(run)?;
         let written = mark.to_text();
-        if written.as_bytes() == run {
+        if same_bytes(written.as_bytes(), run) {
             Some(mark)
         } else {
             None
@@ -99,7 +114,7 @@ pub impl Scale for Reading as ReadingScale {
             rest: 0,
         };
         match pick_number(lower, upper, row) {
-            Some(number) => Some(Reading::new(number as i32)),
+            Some(number) => Some(reading_of(number as i32)),
             None => None,
         }
     }

@@ -9,6 +9,7 @@ use crate::numbered::Numbered;
 use crate::numbered::Row;
 use crate::numbered::pick_number;
 use crate::scales::Scale;
+use crate::words::same_bytes;
 
 #[derive(Clone, Copy, PartialEq, Eq, Debug)]
 pub enum Stage {
@@ -87,13 +88,18 @@ pub impl Scale for Stage as StageScale {
     }
 
     fn of_text(run: &[u8]) -> Option<Stage> {
-        match run {
-            b"off" => Some(Stage::Off),
-            b"leaving" => Some(Stage::Leaving),
-            b"travel" => Some(Stage::Travel),
-            b"arriving" => Some(Stage::Arriving),
-            b"on" => Some(Stage::On),
-            _ => None,
+        if same_bytes(run, b"off") {
+            Some(Stage::Off)
+        } else if same_bytes(run, b"leaving") {
+            Some(Stage::Leaving)
+        } else if same_bytes(run, b"travel") {
+            Some(Stage::Travel)
+        } else if same_bytes(run, b"arriving") {
+            Some(Stage::Arriving)
+        } else if same_bytes(run, b"on") {
+            Some(Stage::On)
+        } else {
+            None
         }
     }
 

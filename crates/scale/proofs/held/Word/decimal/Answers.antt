@@ -13,7 +13,7 @@ prepend-requires c κs = omega (arith, room-before _ _ (c .loop-left .word) (sea
 
 pub loop-left-again : need.loop-left-again
 loop-left-again c = (
-  one-digit (c .loop-left .left) (c .args .number) _ _ (c .loop-left-test .taken) (omega arith) (c .loop-left .inv .0) (c .prepend .ensures),
+  one-digit (c .loop-left .left) (c .args .number) _ _ (c .loop-left-test .taken) (omega arith) (c .loop-left .inv .0) (c .prepend .ensures ∙ ap (λ b. b ∷ bytesOf (c .loop-left .word)) (c .digit .ensures)),
   omega arith,
 )
 
@@ -22,4 +22,4 @@ prepend-requires-2 c κs = omega (arith, room-before _ _ (c .loop-left .word) (s
 
 pub returns : need.returns
 returns c =
-    c .prepend-2 .ensures ∙ ap (λ l. l ++ bytesOf (c .loop-left .word)) (sym (decimal-digit (c .loop-left .left) (c .loop-left-test .left))) ∙ c .loop-left .inv .0
+    c .prepend-2 .ensures ∙ ap (λ b. b ∷ bytesOf (c .loop-left .word)) (c .digit-2 .ensures) ∙ ap (λ l. l ++ bytesOf (c .loop-left .word)) (sym (decimal-digit (c .loop-left .left) (c .loop-left-test .left))) ∙ c .loop-left .inv .0
