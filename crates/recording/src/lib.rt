@@ -2,9 +2,11 @@
 mod checks;
 mod faults;
 mod files;
+mod layers;
 mod lent;
 mod recordings;
 mod records;
+mod tapes;
 
 pub use checks::check_records;
 pub use faults::RecordsFault;
@@ -17,8 +19,12 @@ pub use faults::TapeFaultPartialEq;
 pub use files::Filed;
 pub use files::FiledRecording;
 pub use files::FiledRecordingRecording;
+pub use layers::Layer;
+pub use layers::LayerRecording;
+pub use layers::Working;
 pub use lent::LentRecords;
 pub use lent::LentRecordsTimed;
 pub use lent::TimedRecords;
 pub use recordings::MOST_POINTS;
 pub use recordings::Recording;
+pub use tapes::Tape;
