@@ -8,6 +8,10 @@ use Rattle.recording.specs.Meaning.{Meaning}
 abbrev pub adds : {M : Type 0} → ℕ → Meaning M → Bool
 adds n m = cond (ltb n 16) (eqb n (m .channels)) false
 
+-- c is the channel that is added
+abbrev pub isAdded : {M : Type 0} → ℕ → Meaning M → ℕ → Bool
+isAdded n m c = cond (eqb c n) (adds n m) false
+
 -- all is told as below, but for the marks of channel n where it is added: those are worked out, and not given
 abbrev pub layered : {M : Type 0} → M → (ℕ → M) → ℕ → Meaning M → Meaning M
 layered rest worked n m =
@@ -17,6 +21,5 @@ layered rest worked n m =
       channels = cond (adds n m) (n + 1) (m .channels);
       given = m .given;
       tick = m .tick;
-      mark = λ i c.
-          cond (eqb c n) (cond (adds n m) (cond (ltb i (m .points)) (worked i) rest) (m .mark i c)) (m .mark i c);
+      mark = λ i c. cond (isAdded n m c) (cond (ltb i (m .points)) (worked i) rest) (m .mark i c);
     }

@@ -1,15 +1,13 @@
-// Layers over a recording, each of which works out one channel more from a channel below it.
+// Layers over a recording, each of which works out one channel more from what is told below.
 ghost use Prim.Native.Nat.{ℕ};
 ghost use mathlib.Core.Path.{_≡_};
 ghost use Rattle.recording.specs.Meaning.{Meaning};
-ghost use Rattle.recording.specs.Layers.{layered};
+ghost use Rattle.recording.specs.Layers.{adds, isAdded, layered};
 use crate::faults::TapeFault;
+use crate::recordings::MOST_CHANNELS;
 use crate::recordings::Recording;
 use crate::tapes::Tape;
 use scale::Scale;
-
-// No recording has more channels.
-pub const MOST_CHANNELS: usize = 16;
 
 // A way to work out a mark at each point of a recording.
 pub trait Working<R: Recording> {
@@ -19,10 +17,61 @@ pub trait Working<R: Recording> {
         ensures { λ r. ⌜ r ≡ worked (now (self .entry)) (R·Recording .meaning (now (below .entry))) point ⌝ };
 }
 
+#[derive(Drop)]
 pub struct Layer<R, W> {
     below: R,
     working: W,
+    // The number of the added channel is kept, so that a question at another one goes below at once.
     number: usize,
+}
+
+impl<R: Recording, W> Layer<R, W> {
+    // The layer over this recording, whose channel has the next number.
+    pub(crate) fn over(below: R, working: W) -> Layer<R, W>
+        ensures below { λ r. ⌜ r .below ≡ below ⌝ }
+        ensures working { λ r. ⌜ r .working ≡ working ⌝ }
+        ensures number { λ r. ⌜ r .number ≡ R·Recording .meaning below .channels ⌝ }
+    {
+        let number = below.channels();
+        Layer {
+            below,
+            working,
+            number,
+        }
+    }
+
+    pub fn below(&self) -> &R
+        ensures { λ r. ⌜ now r ≡ now (self .entry) .below ⌝ }
+    {
+        &self.below
+    }
+
+    // Whether the channel's number is a free one: a recording of sixteen channels has none.
+    fn adds(&self) -> bool
+        ensures { λ r. ⌜ r ≡ adds (now (self .entry) .number) (R·Recording .meaning (now (self .entry) .below)) ⌝ }
+    {
+        self.number < MOST_CHANNELS && self.number == self.below.channels()
+    }
+
+    fn is_added(&self, channel: usize) -> bool
+        ensures { λ r. ⌜ r ≡ isAdded (now (self .entry) .number) (R·Recording .meaning (now (self .entry) .below)) channel ⌝ }
+    {
+        channel == self.number && self.adds()
+    }
+}
+
+impl<R, W: Drop> Layer<R, W> {
+    // The recording that the layer was over.
+    pub fn into_below(self) -> R
+        ensures { λ r. ⌜ r ≡ self .below ⌝ }
+    {
+        let Layer {
+            below,
+            working: _,
+            number: _,
+        } = self;
+        below
+    }
 }
 
 pub impl<R: Recording, W: Working<R>> Recording for Layer<R, W> as LayerRecording {
@@ -39,11 +88,10 @@ pub impl<R: Recording, W: Working<R>> Recording for Layer<R, W> as LayerRecordin
     }
 
     fn channels(&self) -> usize {
-        let below = self.below.channels();
-        if self.number < MOST_CHANNELS && self.number == below {
+        if self.adds() {
             self.number + 1
         } else {
-            below
+            self.below.channels()
         }
     }
 
@@ -56,14 +104,12 @@ pub impl<R: Recording, W: Working<R>> Recording for Layer<R, W> as LayerRecordin
     }
 
     fn mark(&self, point: usize, channel: usize) -> R::Mark {
-        if channel == self.number && self.channels() == self.number + 1 {
-            if point < self.points() {
-                self.working.work(&self.below, point)
-            } else {
-                R::Mark::rest()
-            }
-        } else {
+        if !self.is_added(channel) {
             self.below.mark(point, channel)
+        } else if point < self.points() {
+            self.working.work(&self.below, point)
+        } else {
+            R::Mark::rest()
         }
     }
 }
