@@ -113,3 +113,21 @@ pub impl<R: Recording, W: Working<R>> Recording for Layer<R, W> as LayerRecordin
         }
     }
 }
+
+pub impl<R: Tape, W: Working<R>> Tape for Layer<R, W> as LayerTape {
+    fn add(&mut self, tick: u32) -> Result<(), TapeFault> {
+        self.below.add(tick)
+    }
+
+    // Below, the added channel would be refused as none at all.
+    fn amend(&mut self, point: usize, channel: usize, mark: R::Mark) -> Result<(), TapeFault> {
+        if point < self.points() && self.is_added(channel) {
+            return Err(TapeFault::NotGiven);
+        }
+        self.below.amend(point, channel, mark)
+    }
+
+    fn withdraw(&mut self) -> Result<(), TapeFault> {
+        self.below.withdraw()
+    }
+}
