@@ -1,1 +1,2 @@
+mod Peaking
 mod Words

@@ -5,4 +5,5 @@ pub mod Filed
 pub mod Files
 pub mod Layers
 pub mod Meaning
+pub mod Peaks
 pub mod Records

@@ -1,0 +1,45 @@
+// The peak layer, over any recording: the last in order of a channel's marks so far.
+ghost use Prim.Native.Nat.{ℕ};
+ghost use mathlib.Core.Path.{_≡_};
+ghost use Rattle.recording.specs.Peaks.{peakOf, LastOf, later};
+use crate::layers::Layer;
+use crate::layers::Working;
+use crate::recordings::Recording;
+use scale::Scale;
+
+// The channel whose peak is worked out.
+#[derive(Clone, Copy)]
+pub struct PeakOf {
+    channel: usize,
+}
+
+pub type Peak<R> = Layer<R, PeakOf>;
+
+fn later<S: Scale>(a: S, b: S) -> S
+    ensures { λ r. ⌜ r ≡ later (S·Scale .rank) a b ⌝ }
+{
+    if a.is_before(b) { b } else { a }
+}
+
+pub impl<R: Recording> Working<R> for PeakOf as PeakOfWorking {
+    ghost worked = { λ s m i. peakOf (Mark·Scale .rank) (s .channel) m i };
+
+    fn work(&self, below: &R, point: usize) -> R::Mark {
+        let mut peak = below.mark(0, self.channel);
+        for before in 0..point {
+            peak = later(peak, below.mark(before + 1, self.channel));
+        }
+        peak
+    }
+}
+
+impl<R: Recording> Layer<R, PeakOf> {
+    // The peak of this channel over the recording.
+    pub fn new(below: R, channel: usize) -> Peak<R>
+        ensures below { λ r. ⌜ r .below ≡ below ⌝ }
+        ensures channel { λ r. ⌜ r .working .channel ≡ channel ⌝ }
+        ensures number { λ r. ⌜ r .number ≡ R·Recording .meaning below .channels ⌝ }
+    {
+        Layer::over(below, PeakOf { channel })
+    }
+}
