@@ -1,5 +1,6 @@
 pub mod Changes
 pub mod Checks
+pub mod Differences
 pub mod Faults
 pub mod Filed
 pub mod Files

@@ -1,5 +1,6 @@
 // Recordings: marks told at points in time, channel by channel.
 mod checks;
+mod differences;
 mod faults;
 mod files;
 mod layers;
@@ -10,6 +11,9 @@ mod records;
 mod tapes;
 
 pub use checks::check_records;
+pub use differences::Difference;
+pub use differences::DifferenceOf;
+pub use differences::DifferenceOfWorking;
 pub use faults::RecordsFault;
 pub use faults::RecordsFaultDebug;
 pub use faults::RecordsFaultPartialEq;

@@ -1,0 +1,56 @@
+// The difference layer, over any recording of readings: how much a channel changes from each point to the next.
+ghost use Prim.Native.Nat.{ℕ};
+ghost use mathlib.Core.Path.{_≡_};
+ghost use lib.IntN.{_-ℤ_};
+ghost use Rattle.std.specs.Numbers.{saturated};
+ghost use Rattle.scale.specs.Readings.{held, valueOf};
+ghost use Rattle.recording.specs.Differences.{differenceOf};
+use crate::layers::Layer;
+use crate::layers::Working;
+use crate::recordings::Recording;
+use scale::Reading;
+use scale::ReadingScale;
+use scale::Scale;
+
+// The channel whose differences are worked out.
+#[derive(Clone, Copy)]
+pub struct DifferenceOf {
+    channel: usize,
+}
+
+pub type Difference<R> = Layer<R, DifferenceOf>;
+
+fn held_difference(a: i32, b: i32) -> i32
+    ensures { λ r. ⌜ r ≡ saturated 31 (a -ℤ b) ⌝ }
+{
+    a.saturating_sub(b)
+}
+
+fn minus(a: Reading, b: Reading) -> Reading
+    ensures { λ r. ⌜ r ≡ held (valueOf a -ℤ valueOf b) ⌝ }
+{
+    Reading::new(held_difference(a.value(), b.value()))
+}
+
+pub impl<R: Recording<Mark = Reading>> Working<R> for DifferenceOf as DifferenceOfWorking {
+    ghost worked = { λ s m i. differenceOf (s .channel) m i };
+
+    fn work(&self, below: &R, point: usize) -> Reading {
+        if point.saturating_add(1) < below.points() {
+            minus(below.mark(point + 1, self.channel), below.mark(point, self.channel))
+        } else {
+            Reading::rest()
+        }
+    }
+}
+
+impl<R: Recording<Mark = Reading>> Layer<R, DifferenceOf> {
+    // The differences of this channel over the recording.
+    pub fn new(below: R, channel: usize) -> Difference<R>
+        ensures below { λ r. ⌜ r .below ≡ below ⌝ }
+        ensures channel { λ r. ⌜ r .working .channel ≡ channel ⌝ }
+        ensures number { λ r. ⌜ r .number ≡ R·Recording .meaning below .channels ⌝ }
+    {
+        Layer::over(below, DifferenceOf { channel })
+    }
+}
