@@ -8,3 +8,4 @@ pub mod Layers
 pub mod Meaning
 pub mod Peaks
 pub mod Records
+pub mod Rows

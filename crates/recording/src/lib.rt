@@ -8,6 +8,8 @@ mod lent;
 mod peaks;
 mod recordings;
 mod records;
+mod row_tapes;
+mod rows;
 mod tapes;
 
 pub use checks::check_records;
@@ -37,4 +39,8 @@ pub use peaks::PeakOfWorking;
 pub use recordings::MOST_CHANNELS;
 pub use recordings::MOST_POINTS;
 pub use recordings::Recording;
+pub use row_tapes::RowTape;
+pub use row_tapes::RowTapeRecording;
+pub use rows::Row;
+pub use rows::RowClone;
 pub use tapes::Tape;

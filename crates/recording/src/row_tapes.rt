@@ -1,0 +1,125 @@
+// The row tape: four given channels of any scale, kept in rows that are handed in and given back.
+ghost use mathlib.Core.Bool.{cond};
+ghost use mathlib.Core.Path.{_≡_};
+ghost use Prim.Native.Nat.{ℕ, _<_, _≤_};
+ghost use lib.Dec.{eqb};
+ghost use Rattle.std.specs.Of.Vec.{vec-items, vec-len};
+ghost use Rattle.recording.specs.Rows.{TicksFit, TicksRise, blank, markIn, rowed};
+use crate::faults::TapeFault;
+use crate::recordings::MOST_POINTS;
+use crate::recordings::Recording;
+use crate::rows::Row;
+use crate::tapes::Tape;
+use scale::Scale;
+
+const CHANNELS: usize = 4;
+
+impl<S: Scale> Row<S> {
+    // A row where nothing was recorded.
+    pub fn blank() -> Row<S>
+        ensures { λ r. ⌜ r ≡ blank (S·Scale .resting) ⌝ }
+    {
+        let rest = S::rest();
+        Row {
+            tick: 0,
+            c0: rest,
+            c1: rest,
+            c2: rest,
+            c3: rest,
+        }
+    }
+
+    // The mark of a channel, and rest for a channel that no row has.
+    pub fn mark(self, channel: usize) -> S
+        ensures { λ r. ⌜ r ≡ markIn (S·Scale .resting) self channel ⌝ }
+    {
+        match channel {
+            0 => self.c0,
+            1 => self.c1,
+            2 => self.c2,
+            3 => self.c3,
+            _ => S::rest(),
+        }
+    }
+
+    // The row with another mark for one of its channels.
+    fn with_mark(self, channel: usize, mark: S) -> Row<S>
+        requires { ⌜ channel < 4 ⌝ }
+        ensures tick { λ r. ⌜ r .tick ≡ self .tick ⌝ }
+        ensures marks { λ r. ⌜ ((c : ℕ) → markIn (S·Scale .resting) r c ≡ cond (eqb c channel) mark (markIn (S·Scale .resting) self c)) ⌝ }
+    {
+        match channel {
+            0 => Row { c0: mark, ..self },
+            1 => Row { c1: mark, ..self },
+            2 => Row { c2: mark, ..self },
+            _ => Row { c3: mark, ..self },
+        }
+    }
+}
+
+#[derive(Drop)]
+pub struct RowTape<S> {
+    rows: Vec<Row<S>>,
+    // The first rows are the points.
+    points: usize,
+    ghost within: { points ≤ vec-len rows },
+    ghost few: { points ≤ 2048 },
+    ghost fit: { TicksFit (vec-items rows) points },
+    ghost rising: { TicksRise (vec-items rows) points },
+}
+
+impl<S> RowTape<S> {
+    // An empty tape, with room for a point in each of these rows, though no more than 2048.
+    pub fn new(rows: Vec<Row<S>>) -> RowTape<S>
+        ensures rows { λ r. ⌜ r .rows ≡ rows ⌝ }
+        ensures points { λ r. ⌜ r .points ≡ 0 ⌝ }
+    {
+        RowTape { rows, points: 0 }
+    }
+
+    // The rows that were handed in, as the tape left them.
+    pub fn into_rows(self) -> Vec<Row<S>>
+        ensures { λ r. ⌜ r ≡ self .rows ⌝ }
+    {
+        let RowTape { rows, points: _ } = self;
+        rows
+    }
+}
+
+pub impl<S: Scale> Recording for RowTape<S> as RowTapeRecording {
+    type Mark = S;
+
+    ghost meaning = { λ s. rowed (S·Scale .resting) (vec-items (s .rows)) (s .points) };
+
+    fn points(&self) -> usize {
+        self.points
+    }
+
+    fn capacity(&self) -> usize {
+        self.rows.len().min(MOST_POINTS)
+    }
+
+    fn channels(&self) -> usize {
+        CHANNELS
+    }
+
+    fn is_given(&self, channel: usize) -> bool {
+        channel < CHANNELS
+    }
+
+    fn tick(&self, point: usize) -> u32 {
+        if point < self.points {
+            self.rows[point].tick
+        } else {
+            0
+        }
+    }
+
+    fn mark(&self, point: usize, channel: usize) -> S {
+        if point < self.points {
+            self.rows[point].mark(channel)
+        } else {
+            S::rest()
+        }
+    }
+}
