@@ -81,9 +81,16 @@ impl BenchFault {
     {
         match self {
             BenchFault::Tape(TapeFault::Scale(_)) => Layer::Scale,
-            BenchFault::Record { fault: TapeFault::Scale(_), .. } => Layer::Scale,
-            BenchFault::Part { fault: TapeFault::Scale(_), .. } => Layer::Scale,
-            BenchFault::Tape(_) | BenchFault::Record { .. } | BenchFault::Part { .. } => Layer::Tape,
+            BenchFault::Record {
+                fault: TapeFault::Scale(_),
+                ..
+            } => Layer::Scale,
+            BenchFault::Part {
+                fault: TapeFault::Scale(_),
+                ..
+            } => Layer::Scale,
+            BenchFault::Tape(_) | BenchFault::Record { .. } | BenchFault::Part { .. } =>
+                Layer::Tape,
             _ => Layer::Bench,
         }
     }

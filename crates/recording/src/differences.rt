@@ -37,7 +37,10 @@ pub impl<R: Recording<Mark = Reading>> Working<R> for DifferenceOf as Difference
 
     fn work(&self, below: &R, point: usize) -> Reading {
         if point.saturating_add(1) < below.points() {
-            minus(below.mark(point + 1, self.channel), below.mark(point, self.channel))
+            minus(
+                below.mark(point + 1, self.channel),
+                below.mark(point, self.channel),
+            )
         } else {
             Reading::rest()
         }

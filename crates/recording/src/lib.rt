@@ -41,6 +41,7 @@ pub use recordings::MOST_POINTS;
 pub use recordings::Recording;
 pub use row_tapes::RowTape;
 pub use row_tapes::RowTapeRecording;
+pub use row_tapes::RowTapeTape;
 pub use rows::Row;
 pub use rows::RowClone;
 pub use tapes::Tape;

@@ -1,8 +1,9 @@
 // The row tape: four given channels of any scale, kept in rows that are handed in and given back.
 ghost use mathlib.Core.Bool.{cond};
 ghost use mathlib.Core.Path.{_≡_};
-ghost use Prim.Native.Nat.{ℕ, _<_, _≤_};
+ghost use Prim.Native.Nat.{ℕ, _-_, _<_, _≤_};
 ghost use lib.Dec.{eqb};
+ghost use lib.ListN.{getD};
 ghost use Rattle.std.specs.Of.Vec.{vec-items, vec-len};
 ghost use Rattle.recording.specs.Rows.{TicksFit, TicksRise, blank, markIn, rowed};
 use crate::faults::TapeFault;
@@ -121,5 +122,57 @@ pub impl<S: Scale> Recording for RowTape<S> as RowTapeRecording {
         } else {
             S::rest()
         }
+    }
+}
+
+impl<S: Scale> RowTape<S> {
+    // The row that a new point repeats.
+    fn last(&self) -> Row<S>
+        ensures some { λ r. ⌜ (0 < now (self .entry) .points → r ≡ getD (vec-items (now (self .entry) .rows)) (now (self .entry) .points - 1) (blank (S·Scale .resting))) ⌝ }
+        ensures none { λ r. ⌜ (now (self .entry) .points ≡ 0 → r ≡ blank (S·Scale .resting)) ⌝ }
+    {
+        if self.points > 0 {
+            self.rows[self.points - 1]
+        } else {
+            Row::blank()
+        }
+    }
+}
+
+pub impl<S: Scale> Tape for RowTape<S> as RowTapeTape {
+    fn add(&mut self, tick: u32) -> Result<(), TapeFault> {
+        if self.points == self.capacity() {
+            return Err(TapeFault::Full);
+        }
+        if self.points > 0 && tick <= self.tick(self.points - 1) {
+            return Err(TapeFault::TickNotLater);
+        }
+        let row = Row {
+            tick,
+            ..self.last()
+        };
+        self.rows[self.points] = row;
+        self.points += 1;
+        Ok(())
+    }
+
+    fn amend(&mut self, point: usize, channel: usize, mark: S) -> Result<(), TapeFault> {
+        if point >= self.points {
+            return Err(TapeFault::NoPoint);
+        }
+        if channel >= CHANNELS {
+            return Err(TapeFault::NoChannel);
+        }
+        let row = self.rows[point].with_mark(channel, mark);
+        self.rows[point] = row;
+        Ok(())
+    }
+
+    fn withdraw(&mut self) -> Result<(), TapeFault> {
+        if self.points == 0 {
+            return Err(TapeFault::NoPoint);
+        }
+        self.points -= 1;
+        Ok(())
     }
 }

@@ -14,5 +14,5 @@ returns c =
     let second : toZ w32 (ofZ w32 (c .value-2 .result)) ≡ valueOf (c .args .b) = toZ-ofZ w32 (c .value-2 .result) (record { sfits = c .value-2 .ok }) ∙ c .value-2 .ensures in
     let told : c .new .result .value ≡ c .held-difference .result = c .new .ensures ∙ toZ-ofZ w32 (c .held-difference .result) (record { sfits = c .held-difference .ok }) in
     let value : c .new .result .value ≡ saturated 31 (valueOf (c .args .a) -ℤ valueOf (c .args .b)) =
-        told ∙ c .held-difference .ensures ∙ ap (λ (y : ℤ). saturated 31 (y -ℤ toZ w32 (ofZ w32 (c .value-2 .result)))) first ∙ ap (λ (y : ℤ). saturated 31 (valueOf (c .args .a) -ℤ y)) second
+    told ∙ c .held-difference .ensures ∙ ap (λ (y : ℤ). saturated 31 (y -ℤ toZ w32 (ofZ w32 (c .value-2 .result)))) first ∙ ap (λ (y : ℤ). saturated 31 (valueOf (c .args .a) -ℤ y)) second
     in same-reading (c .new .result) (held (valueOf (c .args .a) -ℤ valueOf (c .args .b))) value
