@@ -1,16 +1,17 @@
 -- What a recording tells with a layer over it, which works out one channel more. Assumes nothing.
 use mathlib.Core.Bool.{Bool, cond, false}
-use Prim.Native.Nat.{ℕ, _+_}
+use mathlib.Core.Path.{_≡_}
+use Prim.Native.Nat.{ℕ, _+_, _<_, min}
 use lib.Dec.{eqb, ltb}
 use Rattle.recording.specs.Meaning.{Meaning}
 
--- channel n is added where it is the next one and one of at most sixteen
-abbrev pub adds : {M : Type 0} → ℕ → Meaning M → Bool
-adds n m = cond (ltb n 16) (eqb n (m .channels)) false
+-- sixteen channels are the most, and a channel that is added has the next number
+abbrev pub takes : ℕ → ℕ → Bool
+takes channels n = cond (ltb channels 16) (eqb n channels) false
 
--- c is the channel that is added
+-- c is the channel n that is added
 abbrev pub isAdded : {M : Type 0} → ℕ → Meaning M → ℕ → Bool
-isAdded n m c = cond (eqb c n) (adds n m) false
+isAdded n m c = cond (eqb c n) (takes (m .channels) n) false
 
 -- all is told as below, but for the marks of channel n where it is added: those are worked out, and not given
 abbrev pub layered : {M : Type 0} → M → (ℕ → M) → ℕ → Meaning M → Meaning M
@@ -18,8 +19,19 @@ layered rest worked n m =
     record {
       points = m .points;
       capacity = m .capacity;
-      channels = cond (adds n m) (n + 1) (m .channels);
+      channels = cond (takes (m .channels) n) (n + 1) (m .channels);
       given = m .given;
       tick = m .tick;
       mark = λ i c. cond (isAdded n m c) (cond (ltb i (m .points)) (worked i) rest) (m .mark i c);
     }
+
+-- what is told over m: all that m tells, and a channel with the next number that is not given, unless m has sixteen
+pub record Overlaid {M : Type 0} (worked : ℕ → M) (m told : Meaning M) : Type 0 where
+  pub points : told .points ≡ m .points
+  pub capacity : told .capacity ≡ m .capacity
+  pub channels : told .channels ≡ min (m .channels + 1) 16
+  pub tick : (i : ℕ) → told .tick i ≡ m .tick i
+  pub given : (c : ℕ) → told .given c ≡ m .given c
+  pub not-given : told .given (m .channels) ≡ false
+  pub below : (i c : ℕ) → c < m .channels → told .mark i c ≡ m .mark i c
+  pub added : (i : ℕ) → m .channels < 16 → i < m .points → told .mark i (m .channels) ≡ worked i

@@ -2,7 +2,7 @@
 ghost use Prim.Native.Nat.{ℕ};
 ghost use mathlib.Core.Path.{_≡_};
 ghost use Rattle.recording.specs.Meaning.{Meaning};
-ghost use Rattle.recording.specs.Layers.{adds, isAdded, layered};
+ghost use Rattle.recording.specs.Layers.{isAdded, layered, takes};
 use crate::faults::TapeFault;
 use crate::recordings::MOST_CHANNELS;
 use crate::recordings::Recording;
@@ -19,15 +19,22 @@ pub trait Working<R: Recording> {
 
 #[derive(Drop)]
 pub struct Layer<R, W> {
-    below: R,
-    working: W,
+    pub(crate) below: R,
+    pub(crate) working: W,
     // The number of the added channel is kept, so that a question at another one goes below at once.
-    number: usize,
+    pub(crate) number: usize,
+}
+
+// Whether a recording of so many channels takes one more, of this number.
+fn takes(channels: usize, number: usize) -> bool
+    ensures { λ r. ⌜ r ≡ takes channels number ⌝ }
+{
+    channels < MOST_CHANNELS && number == channels
 }
 
 impl<R: Recording, W> Layer<R, W> {
     // The layer over this recording, whose channel has the next number.
-    pub(crate) fn over(below: R, working: W) -> Layer<R, W>
+    pub fn over(below: R, working: W) -> Layer<R, W>
         ensures below { λ r. ⌜ r .below ≡ below ⌝ }
         ensures working { λ r. ⌜ r .working ≡ working ⌝ }
         ensures number { λ r. ⌜ r .number ≡ R·Recording .meaning below .channels ⌝ }
@@ -46,17 +53,10 @@ impl<R: Recording, W> Layer<R, W> {
         &self.below
     }
 
-    // Whether the channel's number is a free one: a recording of sixteen channels has none.
-    fn adds(&self) -> bool
-        ensures { λ r. ⌜ r ≡ adds (now (self .entry) .number) (R·Recording .meaning (now (self .entry) .below)) ⌝ }
-    {
-        self.number < MOST_CHANNELS && self.number == self.below.channels()
-    }
-
     fn is_added(&self, channel: usize) -> bool
         ensures { λ r. ⌜ r ≡ isAdded (now (self .entry) .number) (R·Recording .meaning (now (self .entry) .below)) channel ⌝ }
     {
-        channel == self.number && self.adds()
+        channel == self.number && takes(self.below.channels(), self.number)
     }
 }
 
@@ -88,10 +88,11 @@ pub impl<R: Recording, W: Working<R>> Recording for Layer<R, W> as LayerRecordin
     }
 
     fn channels(&self) -> usize {
-        if self.adds() {
-            self.number + 1
+        let channels = self.below.channels();
+        if takes(channels, self.number) {
+            channels + 1
         } else {
-            self.below.channels()
+            channels
         }
     }
 
@@ -121,7 +122,7 @@ pub impl<R: Tape, W: Working<R>> Tape for Layer<R, W> as LayerTape {
 
     // Below, the added channel would be refused as none at all.
     fn amend(&mut self, point: usize, channel: usize, mark: R::Mark) -> Result<(), TapeFault> {
-        if point < self.points() && self.is_added(channel) {
+        if self.is_added(channel) && point < self.points() {
             return Err(TapeFault::NotGiven);
         }
         self.below.amend(point, channel, mark)
