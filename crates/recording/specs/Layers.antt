@@ -3,6 +3,7 @@ use mathlib.Core.Bool.{Bool, cond, false}
 use mathlib.Core.Path.{_≡_}
 use Prim.Native.Nat.{ℕ, _+_, _<_, min}
 use lib.Dec.{eqb, ltb}
+use Rattle.recording.specs.declared.layers.Layer.{Layer}
 use Rattle.recording.specs.Meaning.{Meaning}
 
 -- sixteen channels are the most, and a channel that is added has the next number
@@ -24,6 +25,15 @@ layered rest worked n m =
       tick = m .tick;
       mark = λ i c. cond (isAdded n m c) (cond (ltb i (m .points)) (worked i) rest) (m .mark i c);
     }
+
+-- what a layer tells, from what its recording tells and what it works out of that
+abbrev pub toldBy : {R W M : Type 0} → M → (R → Meaning M) → (W → Meaning M → ℕ → M) → Layer R W → Meaning M
+toldBy rest meaning worked s = layered rest (worked (s .working) (meaning (s .below))) (s .number) (meaning (s .below))
+
+-- the same layer over another recording
+pub record SameLayer {R W : Type 0} (s t : Layer R W) : Type 0 where
+  pub working : t .working ≡ s .working
+  pub number : t .number ≡ s .number
 
 -- what is told over m: all that m tells, and a channel with the next number that is not given, unless m has sixteen
 pub record Overlaid {M : Type 0} (worked : ℕ → M) (m told : Meaning M) : Type 0 where

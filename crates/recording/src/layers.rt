@@ -1,8 +1,9 @@
 // Layers over a recording, each of which works out one channel more from what is told below.
 ghost use Prim.Native.Nat.{ℕ};
 ghost use mathlib.Core.Path.{_≡_};
+ghost use Rattle.recording.specs.Changes.{Added, Amended, Withdrawn};
 ghost use Rattle.recording.specs.Meaning.{Meaning};
-ghost use Rattle.recording.specs.Layers.{isAdded, layered, takes};
+ghost use Rattle.recording.specs.Layers.{SameLayer, isAdded, takes, toldBy};
 use crate::faults::TapeFault;
 use crate::recordings::MOST_CHANNELS;
 use crate::recordings::Recording;
@@ -77,7 +78,7 @@ impl<R, W: Drop> Layer<R, W> {
 pub impl<R: Recording, W: Working<R>> Recording for Layer<R, W> as LayerRecording {
     type Mark = R::Mark;
 
-    ghost meaning = { λ s. layered (Mark·Scale .resting) (W·Working .worked (s .working) (R·Recording .meaning (s .below))) (s .number) (R·Recording .meaning (s .below)) };
+    ghost meaning = { toldBy (Mark·Scale .resting) (R·Recording .meaning) (W·Working .worked) };
 
     fn points(&self) -> usize {
         self.below.points()
@@ -116,19 +117,28 @@ pub impl<R: Recording, W: Working<R>> Recording for Layer<R, W> as LayerRecordin
 }
 
 pub impl<R: Tape, W: Working<R>> Tape for Layer<R, W> as LayerTape {
-    fn add(&mut self, tick: u32) -> Result<(), TapeFault> {
+    fn add(&mut self, tick: u32) -> Result<(), TapeFault>
+        ensures change { λ r. ⌜ Added (Mark·Scale .resting) (toldBy (Mark·Scale .resting) (R·Recording .meaning) (W·Working .worked) (now (self .entry))) tick r (toldBy (Mark·Scale .resting) (R·Recording .meaning) (W·Working .worked) (now (self .exit))) ⌝ }
+        ensures same { λ _. ⌜ SameLayer (now (self .entry)) (now (self .exit)) ⌝ }
+    {
         self.below.add(tick)
     }
 
     // Below, the added channel would be refused as none at all.
-    fn amend(&mut self, point: usize, channel: usize, mark: R::Mark) -> Result<(), TapeFault> {
+    fn amend(&mut self, point: usize, channel: usize, mark: R::Mark) -> Result<(), TapeFault>
+        ensures change { λ r. ⌜ Amended (toldBy (Mark·Scale .resting) (R·Recording .meaning) (W·Working .worked) (now (self .entry))) point channel mark r (toldBy (Mark·Scale .resting) (R·Recording .meaning) (W·Working .worked) (now (self .exit))) ⌝ }
+        ensures same { λ _. ⌜ SameLayer (now (self .entry)) (now (self .exit)) ⌝ }
+    {
         if self.is_added(channel) && point < self.points() {
             return Err(TapeFault::NotGiven);
         }
         self.below.amend(point, channel, mark)
     }
 
-    fn withdraw(&mut self) -> Result<(), TapeFault> {
+    fn withdraw(&mut self) -> Result<(), TapeFault>
+        ensures change { λ r. ⌜ Withdrawn (toldBy (Mark·Scale .resting) (R·Recording .meaning) (W·Working .worked) (now (self .entry))) r (toldBy (Mark·Scale .resting) (R·Recording .meaning) (W·Working .worked) (now (self .exit))) ⌝ }
+        ensures same { λ _. ⌜ SameLayer (now (self .entry)) (now (self .exit)) ⌝ }
+    {
         self.below.withdraw()
     }
 }
