@@ -6,7 +6,10 @@ use native.Mathlib.Numerals.{add-one}
 use native.Mathlib.Omega.{arith}
 use Rattle.std.proofs.shelf.Ways.{tells}
 use Rattle.std.proofs.str.Laws.{order}
-use Rattle.recording.specs.Peaks.{later, peak, LastOf}
+use Rattle.recording.specs.Layers.{layered}
+use Rattle.recording.specs.Meaning.{Meaning, Sound}
+use Rattle.recording.specs.Peaks.{later, peak, peakOf, LastOf, PeakOver}
+use Rattle.recording.proofs.Overlays.{overlaid, added-mark, rest-added}
 
 module _ {M : Type 0} (rank : M → ℕ) where
   pub peak-more : (marks : ℕ → M) (i : ℕ) → peak rank marks (i + 1) ≡ later rank (peak rank marks i) (marks (i + 1))
@@ -42,3 +45,13 @@ module _ {M : Type 0} (rank : M → ℕ) where
     none-after = λ k le. let e : k ≡ zero = omega arith in omega (arith, ap (λ j. rank (marks j)) e);
   }
   peak-last marks (suc i) = one-more marks i (peak rank marks i) (peak-last marks i)
+
+  pub peak-over : (rest : M) (c : ℕ) (m : Meaning M) → Sound rest m → PeakOver rank rest c m (layered rest (peakOf rank c m) (m .channels) m)
+  peak-over rest c m sound = record {
+    over = overlaid rest (peakOf rank c m) m sound;
+    last = λ i room h.
+        subst (LastOf rank (λ k. m .mark k c) i) (sym (added-mark rest (peakOf rank c m) m sound i room h))
+        (peak-last (λ k. m .mark k c) i);
+    absent = λ i none. rest-added rest (peakOf rank c m) m sound (λ j.
+        let l = peak-last (λ k. m .mark k c) j in l .among .2 ∙ sound .no-channel (l .among .0) c none) i;
+  }

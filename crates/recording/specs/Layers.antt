@@ -35,13 +35,12 @@ pub record SameLayer {R W : Type 0} (s t : Layer R W) : Type 0 where
   pub working : t .working ≡ s .working
   pub number : t .number ≡ s .number
 
--- what is told over m: all that m tells, and a channel with the next number that is not given, unless m has sixteen
-pub record Overlaid {M : Type 0} (worked : ℕ → M) (m told : Meaning M) : Type 0 where
+-- told over m is all that m tells, and one channel more, with the next number and not given, unless m has sixteen
+pub record Overlaid {M : Type 0} (m told : Meaning M) : Type 0 where
   pub points : told .points ≡ m .points
   pub capacity : told .capacity ≡ m .capacity
   pub channels : told .channels ≡ min (m .channels + 1) 16
-  pub tick : (i : ℕ) → told .tick i ≡ m .tick i
+  pub ticks : (i : ℕ) → told .tick i ≡ m .tick i
   pub given : (c : ℕ) → told .given c ≡ m .given c
   pub not-given : told .given (m .channels) ≡ false
-  pub below : (i c : ℕ) → c < m .channels → told .mark i c ≡ m .mark i c
-  pub added : (i : ℕ) → m .channels < 16 → i < m .points → told .mark i (m .channels) ≡ worked i
+  pub marks : (i c : ℕ) → c < m .channels → told .mark i c ≡ m .mark i c

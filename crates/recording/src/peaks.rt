@@ -1,7 +1,8 @@
 // The peak layer, over any recording: the last in order of a channel's marks so far.
 ghost use Prim.Native.Nat.{ℕ};
 ghost use mathlib.Core.Path.{_≡_};
-ghost use Rattle.recording.specs.Peaks.{peakOf, LastOf, later};
+ghost use Rattle.recording.specs.Layers.{toldBy};
+ghost use Rattle.recording.specs.Peaks.{PeakOver, later, peakOf};
 use crate::layers::Layer;
 use crate::layers::Working;
 use crate::recordings::Recording;
@@ -22,7 +23,7 @@ fn later<S: Scale>(a: S, b: S) -> S
 }
 
 pub impl<R: Recording> Working<R> for PeakOf as PeakOfWorking {
-    ghost worked = { λ s m i. peakOf (Mark·Scale .rank) (s .channel) m i };
+    ghost worked = { λ s. peakOf (Mark·Scale .rank) (s .channel) };
 
     fn work(&self, below: &R, point: usize) -> R::Mark {
         let mut peak = below.mark(0, self.channel);
@@ -33,13 +34,22 @@ pub impl<R: Recording> Working<R> for PeakOf as PeakOfWorking {
     }
 }
 
+impl PeakOf {
+    fn at(channel: usize) -> PeakOf
+        ensures { λ r. ⌜ r .channel ≡ channel ⌝ }
+    {
+        PeakOf { channel }
+    }
+}
+
 impl<R: Recording> Layer<R, PeakOf> {
     // The peak of this channel over the recording.
     pub fn new(below: R, channel: usize) -> Peak<R>
         ensures below { λ r. ⌜ r .below ≡ below ⌝ }
         ensures channel { λ r. ⌜ r .working .channel ≡ channel ⌝ }
         ensures number { λ r. ⌜ r .number ≡ R·Recording .meaning below .channels ⌝ }
+        ensures peak { λ r. ⌜ PeakOver (Mark·Scale .rank) (Mark·Scale .resting) channel (R·Recording .meaning below) (toldBy (Mark·Scale .resting) (R·Recording .meaning) (λ s. peakOf (Mark·Scale .rank) (s .channel)) r) ⌝ }
     {
-        Layer::over(below, PeakOf { channel })
+        Layer::over(below, PeakOf::at(channel))
     }
 }
