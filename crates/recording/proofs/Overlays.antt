@@ -24,10 +24,9 @@ module _ {M : Type 0} (rest : M) (worked : ℕ → M) (m : Meaning M) (sound : S
   pub added-mark : (i : ℕ) → m .channels < 16 → i < m .points → layered rest worked (m .channels) m .mark i (m .channels) ≡ worked i
   added-mark i room h = grind (arith, tells)
 
-  -- rest is told where only rest is worked out
-  pub rest-added : ((i : ℕ) → worked i ≡ rest) → (i : ℕ) → layered rest worked (m .channels) m .mark i (m .channels) ≡ rest
-  rest-added rests i =
-      let here = rests i in
+  -- rest is told where rest is worked out
+  pub rest-added : (i : ℕ) → worked i ≡ rest → layered rest worked (m .channels) m .mark i (m .channels) ≡ rest
+  rest-added i here =
       let no-channel = sound .no-channel i (m .channels) (omega arith) in
       grind (arith, tells)
 

@@ -52,6 +52,7 @@ module _ {M : Type 0} (rank : M → ℕ) where
     last = λ i room h.
         subst (LastOf rank (λ k. m .mark k c) i) (sym (added-mark rest (peakOf rank c m) m sound i room h))
         (peak-last (λ k. m .mark k c) i);
-    absent = λ i none. rest-added rest (peakOf rank c m) m sound (λ j.
-        let l = peak-last (λ k. m .mark k c) j in l .among .2 ∙ sound .no-channel (l .among .0) c none) i;
+    absent = λ i none.
+        let l = peak-last (λ k. m .mark k c) i in
+        rest-added rest (peakOf rank c m) m sound i (l .among .2 ∙ sound .no-channel (l .among .0) c none);
   }

@@ -1,10 +1,11 @@
 // The difference layer, over any recording of readings: how much a channel changes from each point to the next.
 ghost use Prim.Native.Nat.{ℕ};
 ghost use mathlib.Core.Path.{_≡_};
-ghost use lib.IntN.{_-ℤ_};
+ghost use lib.IntN.{pos, _-ℤ_};
 ghost use Rattle.std.specs.Numbers.{saturated};
 ghost use Rattle.scale.specs.Readings.{held, valueOf};
-ghost use Rattle.recording.specs.Differences.{differenceOf};
+ghost use Rattle.recording.specs.Differences.{DifferenceOver, differenceOf};
+ghost use Rattle.recording.specs.Layers.{toldBy};
 use crate::layers::Layer;
 use crate::layers::Working;
 use crate::recordings::Recording;
@@ -33,7 +34,7 @@ fn minus(a: Reading, b: Reading) -> Reading
 }
 
 pub impl<R: Recording<Mark = Reading>> Working<R> for DifferenceOf as DifferenceOfWorking {
-    ghost worked = { λ s m i. differenceOf (s .channel) m i };
+    ghost worked = { λ s. differenceOf (s .channel) };
 
     fn work(&self, below: &R, point: usize) -> Reading {
         if point.saturating_add(1) < below.points() {
@@ -47,13 +48,22 @@ pub impl<R: Recording<Mark = Reading>> Working<R> for DifferenceOf as Difference
     }
 }
 
+impl DifferenceOf {
+    fn at(channel: usize) -> DifferenceOf
+        ensures { λ r. ⌜ r .channel ≡ channel ⌝ }
+    {
+        DifferenceOf { channel }
+    }
+}
+
 impl<R: Recording<Mark = Reading>> Layer<R, DifferenceOf> {
     // The differences of this channel over the recording.
     pub fn new(below: R, channel: usize) -> Difference<R>
         ensures below { λ r. ⌜ r .below ≡ below ⌝ }
         ensures channel { λ r. ⌜ r .working .channel ≡ channel ⌝ }
         ensures number { λ r. ⌜ r .number ≡ R·Recording .meaning below .channels ⌝ }
+        ensures differences { λ r. ⌜ DifferenceOver channel (R·Recording .meaning below) (toldBy (held (pos 0)) (R·Recording .meaning) (λ s. differenceOf (s .channel)) r) ⌝ }
     {
-        Layer::over(below, DifferenceOf { channel })
+        Layer::over(below, DifferenceOf::at(channel))
     }
 }
