@@ -33,10 +33,10 @@ fn minus(a: Reading, b: Reading) -> Reading
     Reading::new(held_difference(a.value(), b.value()))
 }
 
-pub impl<R: Recording<Mark = Reading>> Working<R> for DifferenceOf as DifferenceOfWorking {
+pub impl Working<Reading> for DifferenceOf as DifferenceOfWorking {
     ghost worked = { λ s. differenceOf (s .channel) };
 
-    fn work(&self, below: &R, point: usize) -> Reading {
+    fn work<R: Recording<Mark = Reading>>(&self, below: &R, point: usize) -> Reading {
         if point.saturating_add(1) < below.points() {
             minus(
                 below.mark(point + 1, self.channel),

@@ -11,10 +11,10 @@ use crate::tapes::Tape;
 use scale::Scale;
 
 // A way to work out a mark at each point of a recording.
-pub trait Working<R: Recording> {
-    ghost worked: { Self → Meaning R·Mark → ℕ → R·Mark };
+pub trait Working<S: Scale> {
+    ghost worked: { Self → Meaning S → ℕ → S };
 
-    fn work(&self, below: &R, point: usize) -> R::Mark
+    fn work<R: Recording<Mark = S>>(&self, below: &R, point: usize) -> S
         ensures { λ r. ⌜ r ≡ worked (now (self .entry)) (R·Recording .meaning (now (below .entry))) point ⌝ };
 }
 
@@ -75,7 +75,7 @@ impl<R, W: Drop> Layer<R, W> {
     }
 }
 
-pub impl<R: Recording, W: Working<R>> Recording for Layer<R, W> as LayerRecording {
+pub impl<R: Recording, W: Working<R::Mark>> Recording for Layer<R, W> as LayerRecording {
     type Mark = R::Mark;
 
     ghost meaning = { toldBy (Mark·Scale .resting) (R·Recording .meaning) (W·Working .worked) };
@@ -116,7 +116,7 @@ pub impl<R: Recording, W: Working<R>> Recording for Layer<R, W> as LayerRecordin
     }
 }
 
-pub impl<R: Tape, W: Working<R>> Tape for Layer<R, W> as LayerTape {
+pub impl<R: Tape, W: Working<R::Mark>> Tape for Layer<R, W> as LayerTape {
     fn add(&mut self, tick: u32) -> Result<(), TapeFault>
         ensures change { λ r. ⌜ Added (Mark·Scale .resting) (toldBy (Mark·Scale .resting) (R·Recording .meaning) (W·Working .worked) (now (self .entry))) tick r (toldBy (Mark·Scale .resting) (R·Recording .meaning) (W·Working .worked) (now (self .exit))) ⌝ }
         ensures same { λ _. ⌜ SameLayer (now (self .entry)) (now (self .exit)) ⌝ }

@@ -22,10 +22,10 @@ fn later<S: Scale>(a: S, b: S) -> S
     if a.is_before(b) { b } else { a }
 }
 
-pub impl<R: Recording> Working<R> for PeakOf as PeakOfWorking {
-    ghost worked = { λ s. peakOf (Mark·Scale .rank) (s .channel) };
+pub impl<S: Scale> Working<S> for PeakOf as PeakOfWorking {
+    ghost worked = { λ s. peakOf (S·Scale .rank) (s .channel) };
 
-    fn work(&self, below: &R, point: usize) -> R::Mark {
+    fn work<R: Recording<Mark = S>>(&self, below: &R, point: usize) -> S {
         let mut peak = below.mark(0, self.channel);
         for before in 0..point {
             peak = later(peak, below.mark(before + 1, self.channel));

@@ -5,5 +5,5 @@ use Rattle.recording.proofs.peaks.PeakOfWorking.work.Needs as need
 
 pub loop-before-again : need.loop-before-again
 loop-before-again g c =
-    let more = peak-more (g .Mark·Scale .rank) (λ i. g .R·Recording .meaning (c .args .below .now) .mark i (c .args .self .now .channel)) (c .loop-before .before)
+    let more = peak-more (g .S·Scale .rank) (λ i. g .R·Recording .meaning (c .args .below .now) .mark i (c .args .self .now .channel)) (c .loop-before .before)
     in cc

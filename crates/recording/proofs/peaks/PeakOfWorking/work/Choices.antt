@@ -4,4 +4,4 @@ use Rattle.recording.proofs.peaks.PeakOfWorking.work.Given as given
 
 abbrev pub Inv-loop-before : given.InvT-loop-before
 Inv-loop-before g l =
-    l .peak ≡ peakOf (g .Mark·Scale .rank) (l .self .channel) (g .R·Recording .meaning (l .below)) (l .before)
+    l .peak ≡ peakOf (g .S·Scale .rank) (l .self .channel) (g .R·Recording .meaning (l .below)) (l .before)
