@@ -1,7 +1,8 @@
 -- What rows tell as a recording. Assumes nothing.
 use mathlib.Core.Bool.{cond}
 use mathlib.Core.List.{List}
-use Prim.Native.Nat.{ℕ, _^_, _<_, min}
+use mathlib.Core.Path.{_≡_}
+use Prim.Native.Nat.{ℕ, _^_, _<_, _≤_, min}
 use lib.Dec.{eqb, ltb}
 use lib.ListN.{getD, length}
 use Rattle.recording.specs.declared.rows.Row.{Row}
@@ -13,6 +14,11 @@ TicksFit {S} rows n = (d : Row S) (i : ℕ) → i < n → getD rows i d .tick < 
 
 abbrev pub TicksRise : {S : Type 0} → List (Row S) → ℕ → Type 0
 TicksRise {S} rows n = (d : Row S) → Rising (λ i. getD rows i d .tick) n
+
+-- there are as many rows as before, and behind the first n they are as they were
+pub record RowsLeft {S : Type 0} (before after : List (Row S)) (n : ℕ) : Type 0 where
+  pub count : length after ≡ length before
+  pub others : (d : Row S) (i : ℕ) → n ≤ i → getD after i d ≡ getD before i d
 
 module _ {S : Type 0} (rest : S) where
   -- a row where nothing was recorded

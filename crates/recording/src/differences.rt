@@ -1,5 +1,4 @@
 // The difference layer, over any recording of readings: how much a channel changes from each point to the next.
-ghost use Prim.Native.Nat.{ℕ};
 ghost use mathlib.Core.Path.{_≡_};
 ghost use lib.IntN.{pos, _-ℤ_};
 ghost use Rattle.std.specs.Numbers.{saturated};

@@ -1,5 +1,4 @@
 // The peak layer, over any recording: the last in order of a channel's marks so far.
-ghost use Prim.Native.Nat.{ℕ};
 ghost use mathlib.Core.Path.{_≡_};
 ghost use Rattle.recording.specs.Layers.{toldBy};
 ghost use Rattle.recording.specs.Peaks.{PeakOver, later, peakOf};

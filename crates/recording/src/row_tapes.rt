@@ -5,7 +5,8 @@ ghost use Prim.Native.Nat.{ℕ, _-_, _<_, _≤_};
 ghost use lib.Dec.{eqb};
 ghost use lib.ListN.{getD};
 ghost use Rattle.std.specs.Of.Vec.{vec-items, vec-len};
-ghost use Rattle.recording.specs.Rows.{TicksFit, TicksRise, blank, markIn, rowed};
+ghost use Rattle.recording.specs.Changes.{Added, Amended, Withdrawn};
+ghost use Rattle.recording.specs.Rows.{RowsLeft, TicksFit, TicksRise, blank, markIn, rowed};
 use crate::faults::TapeFault;
 use crate::recordings::MOST_POINTS;
 use crate::recordings::Recording;
@@ -31,7 +32,7 @@ impl<S: Scale> Row<S> {
     }
 
     // The mark of a channel, and rest for a channel that no row has.
-    pub fn mark(self, channel: usize) -> S
+    fn mark(self, channel: usize) -> S
         ensures { λ r. ⌜ r ≡ markIn (S·Scale .resting) self channel ⌝ }
     {
         match channel {
@@ -140,7 +141,10 @@ impl<S: Scale> RowTape<S> {
 }
 
 pub impl<S: Scale> Tape for RowTape<S> as RowTapeTape {
-    fn add(&mut self, tick: u32) -> Result<(), TapeFault> {
+    fn add(&mut self, tick: u32) -> Result<(), TapeFault>
+        ensures change { λ r. ⌜ Added (S·Scale .resting) (rowed (S·Scale .resting) (vec-items (now (self .entry) .rows)) (now (self .entry) .points)) tick r (rowed (S·Scale .resting) (vec-items (now (self .exit) .rows)) (now (self .exit) .points)) ⌝ }
+        ensures left { λ _. ⌜ RowsLeft (vec-items (now (self .entry) .rows)) (vec-items (now (self .exit) .rows)) (now (self .exit) .points) ⌝ }
+    {
         if self.points == self.capacity() {
             return Err(TapeFault::Full);
         }
@@ -156,7 +160,10 @@ pub impl<S: Scale> Tape for RowTape<S> as RowTapeTape {
         Ok(())
     }
 
-    fn amend(&mut self, point: usize, channel: usize, mark: S) -> Result<(), TapeFault> {
+    fn amend(&mut self, point: usize, channel: usize, mark: S) -> Result<(), TapeFault>
+        ensures change { λ r. ⌜ Amended (rowed (S·Scale .resting) (vec-items (now (self .entry) .rows)) (now (self .entry) .points)) point channel mark r (rowed (S·Scale .resting) (vec-items (now (self .exit) .rows)) (now (self .exit) .points)) ⌝ }
+        ensures left { λ _. ⌜ RowsLeft (vec-items (now (self .entry) .rows)) (vec-items (now (self .exit) .rows)) (now (self .exit) .points) ⌝ }
+    {
         if point >= self.points {
             return Err(TapeFault::NoPoint);
         }
@@ -168,7 +175,10 @@ pub impl<S: Scale> Tape for RowTape<S> as RowTapeTape {
         Ok(())
     }
 
-    fn withdraw(&mut self) -> Result<(), TapeFault> {
+    fn withdraw(&mut self) -> Result<(), TapeFault>
+        ensures change { λ r. ⌜ Withdrawn (rowed (S·Scale .resting) (vec-items (now (self .entry) .rows)) (now (self .entry) .points)) r (rowed (S·Scale .resting) (vec-items (now (self .exit) .rows)) (now (self .exit) .points)) ⌝ }
+        ensures left { λ _. ⌜ RowsLeft (vec-items (now (self .entry) .rows)) (vec-items (now (self .exit) .rows)) (now (self .exit) .points) ⌝ }
+    {
         if self.points == 0 {
             return Err(TapeFault::NoPoint);
         }
