@@ -1,1 +1,4 @@
+mod Differing
+mod Overlays
+mod Peaking
 mod Words

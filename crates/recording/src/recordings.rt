@@ -6,6 +6,9 @@ use scale::Scale;
 // No recording has more points.
 pub const MOST_POINTS: usize = 2048;
 
+// No recording has more channels.
+pub const MOST_CHANNELS: usize = 16;
+
 pub trait Recording {
     type Mark: Scale;
 
