@@ -1,15 +1,15 @@
 // Record faults by example: which bytes pass the check, and what is told of those that do not.
 #[cfg(test)]
 mod tests {
-    use recording::FiledRecording;
-    use recording::FiledRecordingRecording;
-    use recording::LentRecordsTimed;
+    use filed::FiledRecording;
+    use filed::FiledRecordingRecording;
+    use filed::LentRecordsTimed;
+    use filed::check_records;
     use recording::Recording;
     use recording::RecordsFault;
     use recording::RecordsFaultDebug;
     use recording::RecordsFaultPartialEq;
     use recording::TapeFault;
-    use recording::check_records;
     use scale::Reading;
     use scale::ReadingScale;
     use scale::Scale;

@@ -1,20 +1,20 @@
 // Tapes and layers by example: which changes are refused, and what is told after those that are taken.
 #[cfg(test)]
 mod tests {
-    use recording::Difference;
-    use recording::DifferenceOfWorking;
-    use recording::LayerRecording;
-    use recording::LayerTape;
-    use recording::Peak;
-    use recording::PeakOfWorking;
+    use layers::Difference;
+    use layers::DifferenceOfWorking;
+    use layers::LayerRecording;
+    use layers::LayerTape;
+    use layers::Peak;
+    use layers::PeakOfWorking;
     use recording::Recording;
-    use recording::Row;
-    use recording::RowClone;
-    use recording::RowTape;
-    use recording::RowTapeRecording;
-    use recording::RowTapeTape;
     use recording::Tape;
     use recording::TapeFault;
+    use rows::Row;
+    use rows::RowClone;
+    use rows::RowTape;
+    use rows::RowTapeRecording;
+    use rows::RowTapeTape;
     use scale::Reading;
     use scale::ReadingScale;
     use scale::Scale;
@@ -59,9 +59,9 @@ mod tests {
     // What a channel reads at points 0 to 2.
     fn reads<R: Recording<Mark = Reading>>(recording: &R, channel: usize) -> (i32, i32, i32) {
         (
-            recording.mark(0, channel).value(),
-            recording.mark(1, channel).value(),
-            recording.mark(2, channel).value(),
+            recording.mark(0, channel).to_i32(),
+            recording.mark(1, channel).to_i32(),
+            recording.mark(2, channel).to_i32(),
         )
     }
 
@@ -82,7 +82,7 @@ mod tests {
         check_eq(tape.points(), 3)?;
         check_eq(number(tape.add(21)), 0)?;
         check_eq((tape.points(), tape.tick(2), tape.tick(3)), (4, 20, 21))?;
-        check_eq(tape.mark(3, 0).value(), 5)?;
+        check_eq(tape.mark(3, 0).to_i32(), 5)?;
         check_eq(number(tape.add(4_294_967_295)), 0)?;
         check_eq(number(tape.add(4_294_967_295)), 11)?;
         let mut short = blank_tape::<Stage>(rt.alloc(), 1)?;
@@ -100,10 +100,10 @@ mod tests {
         check_eq(number(tape.amend(1, 4, nine)), 6)?;
         check_eq(number(tape.amend(usize::MAX, 0, nine)), 8)?;
         check_eq(number(tape.amend(1, 3, nine)), 0)?;
-        check_eq((tape.mark(1, 3).value(), tape.mark(0, 3).value()), (9, 0))?;
+        check_eq((tape.mark(1, 3).to_i32(), tape.mark(0, 3).to_i32()), (9, 0))?;
         check_eq(number(tape.withdraw()), 0)?;
-        check_eq((tape.points(), tape.mark(0, 0).value()), (1, 3))?;
-        check_eq(tape.mark(1, 3).value(), 0)?;
+        check_eq((tape.points(), tape.mark(0, 0).to_i32()), (1, 3))?;
+        check_eq(tape.mark(1, 3).to_i32(), 0)?;
         check_eq(number(tape.withdraw()), 0)?;
         check_eq(number(tape.withdraw()), 8)?;
         let rows = tape.into_rows();

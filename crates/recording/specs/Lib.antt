@@ -1,11 +1,3 @@
 pub mod Changes
-pub mod Checks
-pub mod Differences
 pub mod Faults
-pub mod Filed
-pub mod Files
-pub mod Layers
 pub mod Meaning
-pub mod Peaks
-pub mod Records
-pub mod Rows

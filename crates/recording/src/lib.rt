@@ -1,21 +1,8 @@
-// Recordings: marks told at points in time, channel by channel.
-mod checks;
-mod differences;
+// Recordings and tapes: what can be told of marks at points in time, and changed.
 mod faults;
-mod files;
-mod layers;
-mod lent;
-mod peaks;
 mod recordings;
-mod records;
-mod row_tapes;
-mod rows;
 mod tapes;
 
-pub use checks::check_records;
-pub use differences::Difference;
-pub use differences::DifferenceOf;
-pub use differences::DifferenceOfWorking;
 pub use faults::RecordsFault;
 pub use faults::RecordsFaultDebug;
 pub use faults::RecordsFaultPartialEq;
@@ -23,25 +10,7 @@ pub use faults::TapeFault;
 pub use faults::TapeFaultDebug;
 pub use faults::TapeFaultFromScale;
 pub use faults::TapeFaultPartialEq;
-pub use files::Filed;
-pub use files::FiledRecording;
-pub use files::FiledRecordingRecording;
-pub use layers::Layer;
-pub use layers::LayerRecording;
-pub use layers::LayerTape;
-pub use layers::Working;
-pub use lent::LentRecords;
-pub use lent::LentRecordsTimed;
-pub use lent::TimedRecords;
-pub use peaks::Peak;
-pub use peaks::PeakOf;
-pub use peaks::PeakOfWorking;
 pub use recordings::MOST_CHANNELS;
 pub use recordings::MOST_POINTS;
 pub use recordings::Recording;
-pub use row_tapes::RowTape;
-pub use row_tapes::RowTapeRecording;
-pub use row_tapes::RowTapeTape;
-pub use rows::Row;
-pub use rows::RowClone;
 pub use tapes::Tape;

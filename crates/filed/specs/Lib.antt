@@ -1,0 +1,4 @@
+pub mod Checks
+pub mod Filed
+pub mod Files
+pub mod Records

@@ -1,4 +1,0 @@
-mod Differing
-mod Overlays
-mod Peaking
-mod Words
