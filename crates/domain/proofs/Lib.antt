@@ -3,3 +3,4 @@ pub mod Growing
 pub mod Handing
 pub mod Labelling
 pub mod Reaching
+pub mod Rowing

@@ -2,8 +2,9 @@
 -- its point and part. Assumes nothing.
 use mathlib.Core.Bool.{Bool, false}
 use mathlib.Core.List.{List, [], _∷_, _++_}
+use mathlib.Core.Path.{_≡_}
 use Prim.Native.Nat.{ℕ, zero, suc, _-_}
-use lib.ListN.{getD, length}
+use lib.ListN.{getD, length, take}
 use Rattle.std.specs.declared.result.Result.{Result}
 use Rattle.std.specs.declared.result.Result.the-variants.{Ok, Err}
 use Rattle.formula.specs.declared.parts.Part.{Part}
@@ -18,7 +19,7 @@ use Rattle.domain.specs.Steps.{stepAt}
 abbrev pub Row : Type 0 → Type 0
 Row S = Result (List (Boxes S)) ℕ
 
-module _ {S : Type 0} (rank : S → ℕ) (marks : ℕ → ℕ → S) (points : ℕ) (signs : List Bool) where
+module _ {S : Type 0} where
   -- one more list at the end of the row, or the number of its part
   abbrev pub settle : List (Boxes S) → Outcome S → Row S
   settle here (Ok xs) = Ok (here ++ (xs ∷ []))
@@ -28,10 +29,16 @@ module _ {S : Type 0} (rank : S → ℕ) (marks : ℕ → ℕ → S) (points : �
   thenRow (Ok here) f = f here
   thenRow (Err part) f = Err part
 
+module _ {S : Type 0} (rank : S → ℕ) (marks : ℕ → ℕ → S) (points : ℕ) (signs : List Bool) where
   -- the lists of the parts that follow, upwards, behind those there are
   abbrev pub rowFrom : ℕ → List (Boxes S) → List (Part S) → List (Boxes S) → Row S
   rowFrom point next [] here = Ok here
   rowFrom point next (p ∷ ps) here = thenRow (settle here (labelled rank here next (length here) (stepAt rank marks points point (getD signs (length here) false) p))) (rowFrom point next ps)
+
+-- a call left the row's lists in the first places, or was stopped at this part
+abbrev pub RowEnds : {S : Type 0} → Result (Unit {0}) ℕ → ℕ → List (Boxes S) → Row S → Type 0
+RowEnds (Ok _) count lists row = row ≡ Ok (take count lists)
+RowEnds (Err part) count lists row = row ≡ Err part
 
 -- a row, or the refusal
 abbrev pub Rows : Type 0 → Type 0

@@ -1,10 +1,13 @@
 -- The list of a part at a point, from those of lower parts here and of all parts at the next point. Assumes nothing.
-use mathlib.Core.Bool.{true}
+use mathlib.Core.Bool.{Bool, true, false}
 use mathlib.Core.Path.{_≡_}
 use mathlib.Core.List.{List, [], _∷_, map}
 use Prim.Native.Nat.{ℕ}
 use lib.ListN.{getD, set}
+use Rattle.std.specs.Of.Vec.{vec-items}
 use Rattle.std.specs.Results.{isErr}
+use Rattle.std.specs.declared.alloc.Global.{Global}
+use Rattle.std.specs.declared.vec.Vec.{Vec}
 use Rattle.std.specs.declared.result.Result.{Result}
 use Rattle.std.specs.declared.result.Result.the-variants.{Ok, Err}
 use Rattle.formula.specs.Parts.{limitIndex}
@@ -22,10 +25,19 @@ use Rattle.domain.specs.Listed.{boxesOf}
 abbrev pub listsIn : {S : Type 0} → List (Domain S) → List (Boxes S)
 listsIn ds = map boxesOf ds
 
+-- the same of a vector of them
+abbrev pub rowOf : {S : Type 0} → Vec (Domain S) Global → List (Boxes S)
+rowOf v = listsIn (vec-items v)
+
 -- a call ended with this list, or was stopped
 abbrev pub Ends : {S : Type 0} → Result (Unit {0}) Full → Boxes S → Outcome S → Type 0
 Ends (Ok _) xs o = o ≡ Ok xs
 Ends (Err _) xs o = isErr o ≡ true
+
+-- the list went to its place in the row, or was stopped
+abbrev pub Settles : {S : Type 0} → Bool → List (Boxes S) → ℕ → Outcome S → List (Boxes S) → Type 0
+Settles {S} true lists number o after = (xs : Boxes S) × (o ≡ Ok xs) × (after ≡ set lists number xs)
+Settles false lists number o after = isErr o ≡ true
 
 -- the list of one part, by its number
 abbrev pub at : {S : Type 0} → List (Boxes S) → ℕ → Boxes S

@@ -1,10 +1,13 @@
 // The lists of all parts at one point, and the walk over the points.
+ghost use mathlib.Core.List.{[]};
 ghost use mathlib.Core.Path.{_≡_};
 ghost use Prim.Native.Nat.{_≤_, _<_};
 ghost use lib.ListN.{length};
 ghost use Rattle.std.specs.Of.Vec.{vec-len};
 ghost use Rattle.formula.specs.Orders.{Ordered};
 ghost use Rattle.std.specs.Vec.{made};
+ghost use Rattle.domain.specs.Derived.{RowEnds, rowFrom};
+ghost use Rattle.domain.specs.Labels.{Settles, labelled, rowOf};
 ghost use Rattle.domain.specs.Steps.{span};
 use crate::labels::label;
 use crate::lists::Domain;
@@ -48,8 +51,10 @@ impl<S: Scale> Solver<S> {
 
     // The list of one part at a point goes to its place. Answers false where it would have had a box too many.
     fn settle(&mut self, step: Step<S>, number: usize) -> bool
-        requires { ⌜ span step ≤ number ⌝ }
-        requires { ⌜ number < 24 ⌝ }
+        requires span { ⌜ span step ≤ number ⌝ }
+        requires number { ⌜ number < 24 ⌝ }
+        ensures settled { λ r. ⌜ Settles r (rowOf (now (self .entry) .here)) number (labelled rank (rowOf (now (self .entry) .here)) (rowOf (now (self .entry) .next)) number step) (rowOf (now (self .exit) .here)) ⌝ }
+        ensures same { λ _. ⌜ now (self .exit) .next ≡ now (self .entry) .next ⌝ }
     {
         let end = label(
             step,
@@ -76,6 +81,8 @@ impl<S: Scale> Solver<S> {
     ) -> Result<(), usize>
         requires few { ⌜ length (now parts) ≤ 24 ⌝ }
         requires ordered { ⌜ Ordered (now parts) ⌝ }
+        ensures settled { λ r. ⌜ RowEnds r (length (now (parts .entry))) (rowOf (now (self .exit) .here)) (rowFrom (S·Scale .rank) (R·Recording .meaning (now (recording .entry)) .mark) (R·Recording .meaning (now (recording .entry)) .points) (now (signs .entry)) point (rowOf (now (self .entry) .next)) (now (parts .entry)) []) ⌝ }
+        ensures same { λ _. ⌜ now (self .exit) .next ≡ now (self .entry) .next ⌝ }
     {
         for number in 0..parts.len() {
             let step = step_at(recording, point, parts[number], signs[number]);
