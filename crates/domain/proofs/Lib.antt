@@ -1,4 +1,5 @@
 pub mod Deciding
+pub mod Descending
 pub mod Growing
 pub mod Handing
 pub mod Labelling

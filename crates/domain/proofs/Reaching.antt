@@ -55,7 +55,7 @@ module _ {S : Type 0} (rank : S → ℕ) (marks : ℕ → S) where
   step-span true (Binary weakOp l r) = omega arith
   step-span false (Binary weakOp l r) = omega arith
 
-step-reach : {S : Type 0} (rank : S → ℕ) (marks : ℕ → ℕ → S) (points point : ℕ) (t : Bool) (p : Part S) → span (stepAt rank marks points point t p) ≤ reach p
+pub step-reach : {S : Type 0} (rank : S → ℕ) (marks : ℕ → ℕ → S) (points point : ℕ) (t : Bool) (p : Part S) → span (stepAt rank marks points point t p) ≤ reach p
 step-reach rank marks points point t p =
     let s = stepOf rank (marks point) t p in
     elim (eqb (point + 1) points) as (λ b. span (cond b (settled s) s) ≤ reach p) [ true ↦ omega (arith, settled-span s, step-span rank (marks point) t p) | false ↦ step-span rank (marks point) t p ]

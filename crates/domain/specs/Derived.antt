@@ -3,13 +3,13 @@
 use mathlib.Core.Bool.{Bool, false}
 use mathlib.Core.List.{List, [], _∷_, _++_}
 use mathlib.Core.Path.{_≡_}
-use Prim.Native.Nat.{ℕ, zero, suc, _-_}
+use Prim.Native.Nat.{ℕ, zero, suc, _-_, _<_, _≤_}
 use lib.ListN.{getD, length, take}
 use Rattle.std.specs.declared.result.Result.{Result}
 use Rattle.std.specs.declared.result.Result.the-variants.{Ok, Err}
 use Rattle.formula.specs.declared.parts.Part.{Part}
 use Rattle.domain.specs.declared.solvers.SolveFault.{SolveFault}
-use Rattle.domain.specs.declared.solvers.SolveFault.the-variants.{Full}
+use Rattle.domain.specs.declared.solvers.SolveFault.the-variants.{Blank, NoPoint, Full}
 use Rattle.domain.specs.Added.{Boxes, Outcome}
 use Rattle.domain.specs.Labels.{at, labelled}
 use Rattle.domain.specs.Signs.{signsOf}
@@ -67,3 +67,10 @@ module _ {S : Type 0} (rank : S → ℕ) (marks : ℕ → ℕ → S) (points : �
   -- the list of the whole formula at a point
   abbrev pub derived : ℕ → Result (Boxes S) SolveFault
   derived point = wholeOf (length parts) (rowsBack (points - 1 - point))
+
+  -- what a solve answers, and what it leaves of the list that stood before: refused, all of it
+  abbrev pub Solves : Result ℕ SolveFault → ℕ → Boxes S → Boxes S → Type 0
+  Solves (Ok count) point before after = (0 < length parts) × (point < points) × (derived point ≡ Ok after) × (count ≡ length after)
+  Solves (Err Blank) point before after = (length parts ≡ 0) × (after ≡ before)
+  Solves (Err NoPoint) point before after = (0 < length parts) × (points ≤ point) × (after ≡ before)
+  Solves (Err (Full p k)) point before after = (0 < length parts) × (point < points) × (derived point ≡ Err (Full p k)) × (after ≡ before)

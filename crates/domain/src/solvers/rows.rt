@@ -6,7 +6,9 @@ ghost use lib.ListN.{length};
 ghost use Rattle.std.specs.Of.Vec.{vec-len};
 ghost use Rattle.formula.specs.Orders.{Ordered};
 ghost use Rattle.std.specs.Vec.{made};
-ghost use Rattle.domain.specs.Derived.{RowEnds, rowFrom};
+ghost use Rattle.domain.specs.Derived.{RowEnds, Solves, rowFrom};
+ghost use Rattle.domain.specs.Listed.{boxesOf};
+ghost use Rattle.formula.specs.Formulas.{partsOf};
 ghost use Rattle.domain.specs.Labels.{Settles, labelled, rowOf};
 ghost use Rattle.domain.specs.Steps.{span};
 use crate::labels::label;
@@ -100,7 +102,9 @@ impl<S: Scale> Solver<S> {
         formula: &Formula<S>,
         point: usize,
         answer: &mut Domain<S>,
-    ) -> Result<usize, SolveFault> {
+    ) -> Result<usize, SolveFault>
+        ensures { λ r. ⌜ Solves (S·Scale .rank) (R·Recording .meaning (now (recording .entry)) .mark) (R·Recording .meaning (now (recording .entry)) .points) (partsOf (now (formula .entry))) r point (boxesOf (now (answer .entry))) (boxesOf (now (answer .exit))) ⌝ }
+    {
         if formula.is_blank() {
             return Err(SolveFault::Blank);
         }

@@ -59,8 +59,7 @@ loop-number-again g c =
     let rank = g .S·Scale .rank in
     let lists = rowOf (c .loop-number .self .here) in
     let next = rowOf (c .args .self .now .next) in
-    let put = c .if-not-settle .ensures tt .settled in
-    (
+    let put = c .if-not-settle .ensures tt .settled in (
       c .settle .ensures .same ∙ c .loop-number .inv .0,
       row-goes rank (told .mark) (told .points) (c .args .signs .now) (c .args .point) next _ lists _ (c .loop-number .number) (c .index-parts-number .result) (drop (c .loop-number .number + 1) (c .args .parts .now)) (c .step-at-step .result) (put .0) (c .loop-number .inv .1 ∙ ap (λ l. rowFrom rank (told .mark) (told .points) (c .args .signs .now) (c .args .point) next l (take (c .loop-number .number) lists)) (parts-on g here)) (c .step-at-step .ensures) (narrow-step g here) (in-row g here) (ap (λ v. labelled rank lists (rowOf v) (c .loop-number .number) (c .step-at-step .result)) (sym (c .loop-number .inv .0)) ∙ put .1) (put .2),
     )
