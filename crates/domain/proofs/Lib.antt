@@ -1,3 +1,4 @@
+pub mod Covers
 pub mod Deciding
 pub mod Descending
 pub mod Growing

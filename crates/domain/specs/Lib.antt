@@ -1,6 +1,7 @@
 pub mod Added
 pub mod Boxes
 pub mod Comparisons
+pub mod Covering
 pub mod Derived
 pub mod Labels
 pub mod Listed

@@ -3,6 +3,7 @@ mod comparisons;
 mod domains;
 mod intervals;
 mod labels;
+mod laws;
 mod lists;
 mod orthotopes;
 mod shapes;
@@ -11,6 +12,7 @@ mod signs;
 mod solvers;
 mod steps;
 
+pub use laws::lists_cover;
 pub use lists::Domain;
 pub use lists::Full;
 pub use lists::MAX_BOXES;
