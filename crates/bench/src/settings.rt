@@ -1,5 +1,12 @@
 // Rules set on a bench: each part is held against the recording's channels and scale.
+ghost use mathlib.Core.Bool.{cond};
 ghost use mathlib.Core.Path.{_≡_};
+ghost use lib.Dec.{ltb};
+ghost use Rattle.std.specs.Options.{okOr};
+ghost use Rattle.std.specs.declared.result.Result.the-variants.{Ok, Err};
+ghost use Rattle.scale.specs.declared.faults.ScaleFault.the-variants.{NoMark};
+ghost use Rattle.recording.specs.declared.faults.TapeFault.the-variants.{NoChannel};
+ghost use Rattle.bench.specs.Settings.{fittedOperand, fittedPart};
 use formula::Operand;
 use formula::Part;
 use recording::TapeFault;
@@ -8,7 +15,9 @@ use scale::Scale;
 use scale::ScaleFault;
 
 // A channel that the recording has.
-fn known_channel(channel: usize, channels: usize) -> Result<usize, TapeFault> {
+fn known_channel(channel: usize, channels: usize) -> Result<usize, TapeFault>
+    ensures { λ r. ⌜ r ≡ cond (ltb channel channels) (Ok channel) (Err NoChannel) ⌝ }
+{
     if channel < channels {
         Ok(channel)
     } else {
@@ -17,14 +26,18 @@ fn known_channel(channel: usize, channels: usize) -> Result<usize, TapeFault> {
 }
 
 // The mark of a code.
-fn named_mark<S: Scale>(code: u32) -> Result<S, ScaleFault> {
-    match S::of_code(code) {
+fn named_mark<S: Scale>(number: u32) -> Result<S, ScaleFault>
+    ensures { λ r. ⌜ r ≡ okOr (S·Scale .named number) NoMark ⌝ }
+{
+    match S::of_code(number) {
         Some(mark) => Ok(mark),
         None => Err(ScaleFault::NoMark),
     }
 }
 
-fn fit_operand<S: Scale>(operand: Operand<u32>, channels: usize) -> Result<Operand<S>, TapeFault> {
+fn fit_operand<S: Scale>(operand: Operand<u32>, channels: usize) -> Result<Operand<S>, TapeFault>
+    ensures { λ r. ⌜ r ≡ fittedOperand (S·Scale .named) channels operand ⌝ }
+{
     match operand {
         Operand::Limit(limit) => Ok(Operand::Limit(limit)),
         Operand::Channel(channel) => Ok(Operand::Channel(known_channel(channel, channels)?)),
@@ -33,7 +46,9 @@ fn fit_operand<S: Scale>(operand: Operand<u32>, channels: usize) -> Result<Opera
 }
 
 // The part with marks in place of codes.
-pub fn fit_part<S: Scale>(part: Part<u32>, channels: usize) -> Result<Part<S>, TapeFault> {
+pub fn fit_part<S: Scale>(part: Part<u32>, channels: usize) -> Result<Part<S>, TapeFault>
+    ensures { λ r. ⌜ r ≡ fittedPart (S·Scale .named) channels part ⌝ }
+{
     match part {
         Part::Comparison {
             channel,
