@@ -1,6 +1,8 @@
 -- The parts of a rule held against a recording's channels and scale. Assumes nothing.
 use mathlib.Core.Bool.{cond}
-use Prim.Native.Nat.{ℕ}
+use mathlib.Core.List.{List, [], _∷_}
+use mathlib.Core.Path.{_≡_}
+use Prim.Native.Nat.{ℕ, _+_}
 use lib.Dec.{ltb}
 use Rattle.std.specs.declared.option.Option.{Option}
 use Rattle.std.specs.declared.option.Option.the-variants.{Some, None}
@@ -35,3 +37,18 @@ module _ {S : Type 0} (named : ℕ → Option S) (channels : ℕ) where
   fittedPart (Comparison channel comparator operand) = cond (ltb channel channels) (compared channel comparator (fittedOperand operand)) (Err NoChannel)
   fittedPart (Unary operator operand) = Ok (Unary operator operand)
   fittedPart (Binary operator left right) = Ok (Binary operator left right)
+
+  -- the parts in their order, or the first that is refused, with its number
+  abbrev pub onward : ℕ → Result (Part S) TapeFault → Result (List (Part S)) (ℕ × TapeFault) → Result (List (Part S)) (ℕ × TapeFault)
+  onward k (Ok p) (Ok ps) = Ok (p ∷ ps)
+  onward k (Ok p) (Err e) = Err e
+  onward k (Err fault) r = Err (k, fault)
+
+  abbrev pub fittedFrom : ℕ → List (Part ℕ) → Result (List (Part S)) (ℕ × TapeFault)
+  fittedFrom k [] = Ok []
+  fittedFrom k (p ∷ ps) = onward k (fittedPart p) (fittedFrom (k + 1) ps)
+
+-- a call left these parts, or was refused at this one
+abbrev pub Fitted : {S : Type 0} → Result (Unit {0}) (ℕ × TapeFault) → List (Part S) → Result (List (Part S)) (ℕ × TapeFault) → Type 0
+Fitted (Ok _) parts fitted = fitted ≡ Ok parts
+Fitted (Err e) parts fitted = fitted ≡ Err e

@@ -1,14 +1,19 @@
 // The calls of a bench.
+ghost use mathlib.Core.List.{[]};
 ghost use mathlib.Core.Path.{_≡_};
 ghost use Prim.Native.Nat.{_≤_};
 ghost use lib.ListN.{length};
 ghost use Rattle.std.specs.Vec.{made, refused};
+ghost use Rattle.std.specs.declared.option.Option.the-variants.{None};
+ghost use Rattle.formula.specs.Formulas.{partsOf};
+ghost use Rattle.domain.specs.Listed.{boxesOf};
+ghost use Rattle.bench.specs.Solved.{Solved};
 use crate::benches::Bench;
 use crate::faults::BenchFault;
 use crate::faults::BenchFaultFromSolve;
 use crate::listings::listing_len;
 use crate::listings::put_listing;
-use crate::settings::fit_part;
+use crate::settings::fit_parts;
 use domain::Domain;
 use domain::Solver;
 use formula::Formula;
@@ -22,6 +27,7 @@ impl<R: Recording> Bench<R> {
     pub fn new(heap: Global, recording: R) -> Result<Bench<R>, AllocError>
     where
         R: Drop,
+        ensures { λ r. ⌜ made r (λ b. (b .recording ≡ recording) × (partsOf (b .formula) ≡ []) × (b .solved ≡ None)) ⌝ }
     {
         let formula = Formula::new(heap)?;
         let fresh = Formula::new(heap)?;
@@ -42,15 +48,12 @@ impl<R: Recording> Bench<R> {
         if rule.is_blank() {
             return Err(BenchFault::NoRule);
         }
-        self.fresh.clear();
-        let channels = self.recording.channels();
-        for (part, coded) in rule.formula().parts().iter().enumerate() {
-            match fit_part(*coded, channels) {
-                Ok(fitted) => {
-                    self.fresh.push(fitted);
-                }
-                Err(fault) => return Err(BenchFault::Part { part, fault }),
-            }
+        if let Err((part, fault)) = fit_parts(
+            rule.formula().parts(),
+            self.recording.channels(),
+            &mut self.fresh,
+        ) {
+            return Err(BenchFault::Part { part, fault });
         }
         std::mem::swap(&mut self.formula, &mut self.fresh);
         self.solved = None;
@@ -58,7 +61,11 @@ impl<R: Recording> Bench<R> {
     }
 
     // Solves the rule at a point, and answers how many boxes there are.
-    pub fn solve(&mut self, point: usize) -> Result<usize, BenchFault> {
+    pub fn solve(&mut self, point: usize) -> Result<usize, BenchFault>
+        ensures list { λ r. ⌜ Solved (Mark·Scale .rank) (R·Recording .meaning (now (self .entry) .recording)) (partsOf (now (self .entry) .formula)) r point (boxesOf (now (self .entry) .standing)) (boxesOf (now (self .exit) .standing)) (now (self .entry) .solved) (now (self .exit) .solved) ⌝ }
+        ensures recording { λ _. ⌜ now (self .exit) .recording ≡ now (self .entry) .recording ⌝ }
+        ensures rule { λ _. ⌜ now (self .exit) .formula ≡ now (self .entry) .formula ⌝ }
+    {
         let count = self.solver
             .solve(&self.recording, &self.formula, point, &mut self.standing)?;
         self.solved = Some(point);

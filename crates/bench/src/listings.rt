@@ -66,7 +66,7 @@ fn put_box<S: Scale>(out: &mut [u8], line: usize, b: Orthotope<S>) -> usize {
 }
 
 // Writes the listing to the front of the output, as far as there is room, and answers its length.
-pub fn put_listing<S: Scale>(out: &mut [u8], domain: &Domain<S>) -> usize {
+pub(crate) fn put_listing<S: Scale>(out: &mut [u8], domain: &Domain<S>) -> usize {
     let mut end = put(out, 0, b"boxes ");
     let count = Word::decimal(domain.len() as u32);
     end = put(out, end, count.as_bytes());
@@ -78,7 +78,7 @@ pub fn put_listing<S: Scale>(out: &mut [u8], domain: &Domain<S>) -> usize {
 }
 
 // How long the listing is.
-pub fn listing_len<S: Scale>(domain: &Domain<S>) -> usize {
+pub(crate) fn listing_len<S: Scale>(domain: &Domain<S>) -> usize {
     let mut none: [u8; 0] = [];
     put_listing(&mut none, domain)
 }

@@ -6,7 +6,12 @@ ghost use Rattle.std.specs.Options.{okOr};
 ghost use Rattle.std.specs.declared.result.Result.the-variants.{Ok, Err};
 ghost use Rattle.scale.specs.declared.faults.ScaleFault.the-variants.{NoMark};
 ghost use Rattle.recording.specs.declared.faults.TapeFault.the-variants.{NoChannel};
-ghost use Rattle.bench.specs.Settings.{fittedOperand, fittedPart};
+ghost use Prim.Native.Nat.{_≤_};
+ghost use lib.ListN.{length};
+ghost use Rattle.formula.specs.Formulas.{partsOf};
+ghost use Rattle.formula.specs.Orders.{Ordered};
+ghost use Rattle.bench.specs.Settings.{Fitted, fittedFrom, fittedOperand, fittedPart};
+use formula::Formula;
 use formula::Operand;
 use formula::Part;
 use recording::TapeFault;
@@ -46,7 +51,7 @@ fn fit_operand<S: Scale>(operand: Operand<u32>, channels: usize) -> Result<Opera
 }
 
 // The part with marks in place of codes.
-pub fn fit_part<S: Scale>(part: Part<u32>, channels: usize) -> Result<Part<S>, TapeFault>
+fn fit_part<S: Scale>(part: Part<u32>, channels: usize) -> Result<Part<S>, TapeFault>
     ensures { λ r. ⌜ r ≡ fittedPart (S·Scale .named) channels part ⌝ }
 {
     match part {
@@ -74,4 +79,26 @@ pub fn fit_part<S: Scale>(part: Part<u32>, channels: usize) -> Result<Part<S>, T
             right,
         }),
     }
+}
+
+// All parts with marks in place of codes, or the first that is refused, with its number.
+pub(crate) fn fit_parts<S: Scale>(
+    parts: &[Part<u32>],
+    channels: usize,
+    fresh: &mut Formula<S>,
+) -> Result<(), (usize, TapeFault)>
+    requires few { ⌜ length (now parts) ≤ 24 ⌝ }
+    requires ordered { ⌜ Ordered (now parts) ⌝ }
+    ensures { λ r. ⌜ Fitted r (partsOf (now (fresh .exit))) (fittedFrom (S·Scale .named) channels 0 (now (parts .entry))) ⌝ }
+{
+    fresh.clear();
+    for part in 0..parts.len() {
+        match fit_part(parts[part], channels) {
+            Ok(fitted) => {
+                fresh.push(fitted);
+            }
+            Err(fault) => return Err((part, fault)),
+        }
+    }
+    Ok(())
 }

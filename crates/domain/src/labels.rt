@@ -81,7 +81,7 @@ fn label_ahead<S: Scale>(
 }
 
 // The list of one part at a point.
-pub fn label<S: Scale>(
+pub(crate) fn label<S: Scale>(
     step: Step<S>,
     number: usize,
     here: &[Domain<S>],

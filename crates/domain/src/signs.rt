@@ -37,7 +37,7 @@ fn pass_down<K: Copy>(part: Part<K>, turned: bool, signs: &mut [bool])
 }
 
 // The whole formula is not turned, and each operator hands its sign down.
-pub fn signs_of<K: Copy>(parts: &[Part<K>]) -> [bool; MAX_PARTS]
+pub(crate) fn signs_of<K: Copy>(parts: &[Part<K>]) -> [bool; MAX_PARTS]
     requires few { ⌜ length (now parts) ≤ 24 ⌝ }
     requires ordered { ⌜ Ordered (now parts) ⌝ }
     ensures { λ r. ⌜ r ≡ signsOf (now (parts .entry)) ⌝ }

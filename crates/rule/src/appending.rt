@@ -8,7 +8,7 @@ use formula::Formula;
 use formula::Part;
 
 // Adds a part after the others, where it fits, and answers its number.
-pub fn append<K: Copy>(out: &mut Formula<K>, part: Part<K>) -> usize
+pub(crate) fn append<K: Copy>(out: &mut Formula<K>, part: Part<K>) -> usize
     requires { ⌜ Fits part (partsOf (now out)) ⌝ }
     ensures items { λ _. ⌜ partsOf (now (out .exit)) ≡ partsOf (now (out .entry)) ++ part ∷ [] ⌝ }
     ensures value { λ r. ⌜ r ≡ length (partsOf (now (out .entry))) ⌝ }

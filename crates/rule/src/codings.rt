@@ -59,7 +59,7 @@ fn coded_part<S: Scale>(text: &[u8], part: Part<Run>) -> Result<Part<u32>, Scale
 }
 
 // Codes each part of `draft` in order, up to the first run that the scale does not read.
-pub fn code_parts<S: Scale>(
+pub(crate) fn code_parts<S: Scale>(
     text: &[u8],
     draft: &Formula<Run>,
     fresh: &mut Formula<u32>,

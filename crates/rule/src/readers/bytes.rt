@@ -25,7 +25,7 @@ impl Cursor<'_> {
     }
 
     // Passes the next byte, which is `byte`.
-    pub fn pass(&mut self, byte: u8)
+    pub(crate) fn pass(&mut self, byte: u8)
         requires { ⌜ Ahead (now self) byte ⌝ }
         ensures { λ _. ⌜ Passes (now (self .entry)) (now (self .exit)) (byte ∷ []) 0 ⌝ }
     {

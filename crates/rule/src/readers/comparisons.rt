@@ -100,7 +100,7 @@ impl Cursor<'_> {
     }
 
     // A comparison, whose first byte is under the cursor. Answers the number of its part.
-    pub fn comparison(&mut self, out: &mut Formula<Run>) -> Result<usize, TextFault>
+    pub(crate) fn comparison(&mut self, out: &mut Formula<Run>) -> Result<usize, TextFault>
         requires ahead { ⌜ Ahead (now self) 99 ⌝ }
         requires room { ⌜ length (partsOf (now out)) ≤ now self .met ⌝ }
         ensures drawn { λ _. ⌜ (AllDrawn (now (self .entry) .text .now) (partsOf (now (out .entry))) → AllDrawn (now (self .entry) .text .now) (partsOf (now (out .exit)))) ⌝ }
