@@ -1,4 +1,5 @@
 pub mod Faults
+pub mod Sets
 pub mod Settings
 pub mod Solved
 pub mod Written

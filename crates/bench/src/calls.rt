@@ -7,6 +7,8 @@ ghost use Rattle.std.specs.Vec.{made, refused};
 ghost use Rattle.std.specs.declared.option.Option.the-variants.{None};
 ghost use Rattle.formula.specs.Formulas.{partsOf};
 ghost use Rattle.domain.specs.Listed.{boxesOf};
+ghost use Rattle.rule.specs.Rules.{ruleParts};
+ghost use Rattle.bench.specs.Sets.{Sets};
 ghost use Rattle.bench.specs.Solved.{Solved};
 use crate::benches::Bench;
 use crate::faults::BenchFault;
@@ -44,7 +46,11 @@ impl<R: Recording> Bench<R> {
     }
 
     // Takes a rule over. Each part is checked; a refused rule leaves the one before in force.
-    pub fn set(&mut self, rule: Rule) -> Result<(), BenchFault> {
+    pub fn set(&mut self, rule: Rule) -> Result<(), BenchFault>
+        ensures rule { λ r. ⌜ Sets (Mark·Scale .named) (R·Recording .meaning (now (self .entry) .recording) .channels) (ruleParts rule) r (partsOf (now (self .entry) .formula)) (partsOf (now (self .exit) .formula)) (now (self .entry) .solved) (now (self .exit) .solved) ⌝ }
+        ensures recording { λ _. ⌜ now (self .exit) .recording ≡ now (self .entry) .recording ⌝ }
+        ensures standing { λ _. ⌜ now (self .exit) .standing ≡ now (self .entry) .standing ⌝ }
+    {
         if rule.is_blank() {
             return Err(BenchFault::NoRule);
         }

@@ -50,13 +50,12 @@ loop-part-again g c =
     let reached : reach q ≡ reach part = same-reach named (c .args .channels) part q (sym (c .fit-part .ensures) ∙ c .in-Ok .is) in
     let early : reach part ≤ k = c .pre .ordered k unread (c .loop-part-test .taken) in
     let fits : Fits q qs = record { room = omega (arith, c .loop-part .inv .0, c .pre .few, c .loop-part-test .taken); after = omega (arith, c .loop-part .inv .0) } in
-    let put : partsOf (c .push .last .self) ≡ qs ++ (q ∷ []) = pushed (c .push .result) (Fits q qs) _ _ fits (c .push .ensures) in
-    (
+    let put : partsOf (c .push .last .self) ≡ qs ++ (q ∷ []) = pushed (c .push .result) (Fits q qs) _ _ fits (c .push .ensures) in (
       omega (arith, ap length put, length-push qs q, c .loop-part .inv .0),
       from-here g (need.at·loop-part-again g c .After-fit-part)
-      ∙ ap (λ r. follow qs (onward named (c .args .channels) k r rest)) (c .in-Ok .is)
-      ∙ one-more named (c .args .channels) k qs q rest
-      ∙ ap (λ l. follow l rest) (sym put),
+          ∙ ap (λ r. follow qs (onward named (c .args .channels) k r rest)) (c .in-Ok .is)
+          ∙ one-more named (c .args .channels) k qs q rest
+          ∙ ap (λ l. follow l rest) (sym put),
     )
 
 pub returns : need.returns
