@@ -42,16 +42,16 @@ impl<R: Recording> Bench<R> {
 
     // Takes a rule over. Each part is checked; a refused rule leaves the one before in force.
     pub fn set(&mut self, rule: Rule) -> Result<(), BenchFault>
-        ensures rule { Sets Mark-as-Scale.named (R.Recording.meaning self.old.recording).channels (rule_parts rule) result (parts_of self.old.formula) (parts_of self.new.formula) self.old.solved self.new.solved }
+        ensures rule { Sets R.Mark.named (R.meaning self.old.recording).channels (rule_parts rule) result (parts_of self.old.formula) (parts_of self.new.formula) self.old.solved self.new.solved }
         ensures recording { self.new.recording ≡ self.old.recording }
         ensures standing { self.new.standing ≡ self.old.standing }
-        ensures law { SetLaw Mark-as-Scale.rank R.Recording.meaning Mark-as-Scale.named self.old (rule_parts rule) result self.new }
+        ensures law { SetLaw R.Mark.rank R.meaning R.Mark.named self.old (rule_parts rule) result self.new }
     {
         self.put_in_force(rule)
     }
 
     fn put_in_force(&mut self, rule: Rule) -> Result<(), BenchFault>
-        ensures rule { Sets Mark-as-Scale.named (R.Recording.meaning self.old.recording).channels (rule_parts rule) result (parts_of self.old.formula) (parts_of self.new.formula) self.old.solved self.new.solved }
+        ensures rule { Sets R.Mark.named (R.meaning self.old.recording).channels (rule_parts rule) result (parts_of self.old.formula) (parts_of self.new.formula) self.old.solved self.new.solved }
         ensures recording { self.new.recording ≡ self.old.recording }
         ensures standing { self.new.standing ≡ self.old.standing }
     {
@@ -72,16 +72,16 @@ impl<R: Recording> Bench<R> {
 
     // Solves the rule at a point, and answers how many boxes there are.
     pub fn solve(&mut self, point: usize) -> Result<usize, BenchFault>
-        ensures list { Solved Mark-as-Scale.rank (R.Recording.meaning self.old.recording) (parts_of self.old.formula) result point (boxes_of self.old.standing) (boxes_of self.new.standing) self.old.solved self.new.solved }
+        ensures list { Solved R.Mark.rank (R.meaning self.old.recording) (parts_of self.old.formula) result point (boxes_of self.old.standing) (boxes_of self.new.standing) self.old.solved self.new.solved }
         ensures recording { self.new.recording ≡ self.old.recording }
         ensures rule { self.new.formula ≡ self.old.formula }
-        ensures law { SolveLaw Mark-as-Scale.rank R.Recording.meaning self.old point result self.new }
+        ensures law { SolveLaw R.Mark.rank R.meaning self.old point result self.new }
     {
         self.work_out(point)
     }
 
     fn work_out(&mut self, point: usize) -> Result<usize, BenchFault>
-        ensures list { Solved Mark-as-Scale.rank (R.Recording.meaning self.old.recording) (parts_of self.old.formula) result point (boxes_of self.old.standing) (boxes_of self.new.standing) self.old.solved self.new.solved }
+        ensures list { Solved R.Mark.rank (R.meaning self.old.recording) (parts_of self.old.formula) result point (boxes_of self.old.standing) (boxes_of self.new.standing) self.old.solved self.new.solved }
         ensures recording { self.new.recording ≡ self.old.recording }
         ensures rule { self.new.formula ≡ self.old.formula }
     {
@@ -94,7 +94,7 @@ impl<R: Recording> Bench<R> {
 
     // Writes the listing of the solve that stands to the front of the output, and answers its length.
     pub fn print(&self, output: &mut [u8]) -> Result<usize, BenchFault>
-        ensures { Prints Mark-as-Scale.text result self.now.solved (boxes_of self.now.standing) output.old output.new }
+        ensures { Prints R.Mark.text result self.now.solved (boxes_of self.now.standing) output.old output.new }
     {
         if self.solved.is_none() {
             return Err(BenchFault::Unsolved);

@@ -11,7 +11,7 @@ use recording::{Recording, Tape, TapeFault};
 
 // Whether a mark of the recording can be amended.
 fn check_place<R: Recording>(recording: &R, point: usize, channel: usize) -> Result<(), TapeFault>
-    ensures { Placed Mark-as-Scale.named (meaning recording.now) point channel 0 result }
+    ensures { Placed R.Mark.named (R.meaning recording.now) point channel 0 result }
 {
     if point >= recording.points() {
         return Err(TapeFault::NoPoint);
@@ -32,7 +32,7 @@ fn amend_by_code<R: Tape>(
     channel: usize,
     code: u32,
 ) -> Result<(), TapeFault>
-    ensures { CodeAmended Mark-as-Scale.named (R.Recording.meaning tape.old) point channel code result (R.Recording.meaning tape.new) }
+    ensures { CodeAmended R.Mark.named (R.meaning tape.old) point channel code result (R.meaning tape.new) }
 {
     check_place(tape, point, channel)?;
     let mark = named_mark(code)?;
@@ -42,16 +42,16 @@ fn amend_by_code<R: Tape>(
 impl<R: Tape> Bench<R> {
     // Appends a point that repeats the given marks of the last one.
     pub fn add(&mut self, tick: u32) -> Result<(), BenchFault>
-        ensures tape { Changes (λ a. Added Mark-as-Scale.resting (R.Recording.meaning self.old.recording) tick a (R.Recording.meaning self.new.recording)) result self.old.solved self.new.solved }
+        ensures tape { Changes (λ a. Added R.Mark.resting (R.meaning self.old.recording) tick a (R.meaning self.new.recording)) result self.old.solved self.new.solved }
         ensures rule { self.new.formula ≡ self.old.formula }
         ensures standing { self.new.standing ≡ self.old.standing }
-        ensures law { ChangeLaw Mark-as-Scale.rank R.Recording.meaning (λ m a n. Added Mark-as-Scale.resting m tick a n) self.old result self.new }
+        ensures law { ChangeLaw R.Mark.rank R.meaning (λ m a n. Added R.Mark.resting m tick a n) self.old result self.new }
     {
         self.add_point(tick)
     }
 
     fn add_point(&mut self, tick: u32) -> Result<(), BenchFault>
-        ensures tape { Changes (λ a. Added Mark-as-Scale.resting (R.Recording.meaning self.old.recording) tick a (R.Recording.meaning self.new.recording)) result self.old.solved self.new.solved }
+        ensures tape { Changes (λ a. Added R.Mark.resting (R.meaning self.old.recording) tick a (R.meaning self.new.recording)) result self.old.solved self.new.solved }
         ensures rule { self.new.formula ≡ self.old.formula }
         ensures standing { self.new.standing ≡ self.old.standing }
     {
@@ -62,16 +62,16 @@ impl<R: Tape> Bench<R> {
 
     // Puts the mark of a code in the place of a given one.
     pub fn amend(&mut self, point: usize, channel: usize, code: u32) -> Result<(), BenchFault>
-        ensures tape { Changes (λ a. CodeAmended Mark-as-Scale.named (R.Recording.meaning self.old.recording) point channel code a (R.Recording.meaning self.new.recording)) result self.old.solved self.new.solved }
+        ensures tape { Changes (λ a. CodeAmended R.Mark.named (R.meaning self.old.recording) point channel code a (R.meaning self.new.recording)) result self.old.solved self.new.solved }
         ensures rule { self.new.formula ≡ self.old.formula }
         ensures standing { self.new.standing ≡ self.old.standing }
-        ensures law { ChangeLaw Mark-as-Scale.rank R.Recording.meaning (λ m a n. CodeAmended Mark-as-Scale.named m point channel code a n) self.old result self.new }
+        ensures law { ChangeLaw R.Mark.rank R.meaning (λ m a n. CodeAmended R.Mark.named m point channel code a n) self.old result self.new }
     {
         self.amend_mark(point, channel, code)
     }
 
     fn amend_mark(&mut self, point: usize, channel: usize, code: u32) -> Result<(), BenchFault>
-        ensures tape { Changes (λ a. CodeAmended Mark-as-Scale.named (R.Recording.meaning self.old.recording) point channel code a (R.Recording.meaning self.new.recording)) result self.old.solved self.new.solved }
+        ensures tape { Changes (λ a. CodeAmended R.Mark.named (R.meaning self.old.recording) point channel code a (R.meaning self.new.recording)) result self.old.solved self.new.solved }
         ensures rule { self.new.formula ≡ self.old.formula }
         ensures standing { self.new.standing ≡ self.old.standing }
     {
@@ -82,16 +82,16 @@ impl<R: Tape> Bench<R> {
 
     // Takes the last point away.
     pub fn withdraw(&mut self) -> Result<(), BenchFault>
-        ensures tape { Changes (λ a. Withdrawn (R.Recording.meaning self.old.recording) a (R.Recording.meaning self.new.recording)) result self.old.solved self.new.solved }
+        ensures tape { Changes (λ a. Withdrawn (R.meaning self.old.recording) a (R.meaning self.new.recording)) result self.old.solved self.new.solved }
         ensures rule { self.new.formula ≡ self.old.formula }
         ensures standing { self.new.standing ≡ self.old.standing }
-        ensures law { ChangeLaw Mark-as-Scale.rank R.Recording.meaning (λ m a n. Withdrawn m a n) self.old result self.new }
+        ensures law { ChangeLaw R.Mark.rank R.meaning (λ m a n. Withdrawn m a n) self.old result self.new }
     {
         self.withdraw_point()
     }
 
     fn withdraw_point(&mut self) -> Result<(), BenchFault>
-        ensures tape { Changes (λ a. Withdrawn (R.Recording.meaning self.old.recording) a (R.Recording.meaning self.new.recording)) result self.old.solved self.new.solved }
+        ensures tape { Changes (λ a. Withdrawn (R.meaning self.old.recording) a (R.meaning self.new.recording)) result self.old.solved self.new.solved }
         ensures rule { self.new.formula ≡ self.old.formula }
         ensures standing { self.new.standing ≡ self.old.standing }
     {

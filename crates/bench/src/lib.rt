@@ -1,4 +1,6 @@
 // The bench: a rule and a recording brought together, solved, and told as a listing.
+#![tactic(auto)]
+
 mod benches;
 mod calls;
 mod changes;

@@ -11,7 +11,7 @@ use scale::Scale;
 
 // The marks of three codes.
 fn named_three<S: Scale>(p: u32, q: u32, r: u32) -> Result<(S, S, S), TapeFault>
-    ensures { Named (three_named S.Scale.named p q r) result }
+    ensures { Named (three_named S.named p q r) result }
 {
     let p = named_mark(p)?;
     let q = named_mark(q)?;
@@ -22,15 +22,15 @@ fn named_three<S: Scale>(p: u32, q: u32, r: u32) -> Result<(S, S, S), TapeFault>
 impl<R: Recording> Bench<R> {
     // Whether the rule is true with these limits, given as codes.
     pub fn ask(&self, p: u32, q: u32, r: u32) -> Result<bool, BenchFault>
-        ensures list { Asks Mark-as-Scale.rank self.now.solved (boxes_of self.now.standing) (three_named Mark-as-Scale.named p q r) result }
-        ensures law { AskLaw Mark-as-Scale.rank R.Recording.meaning Mark-as-Scale.named self.now p q r result }
+        ensures list { Asks R.Mark.rank self.now.solved (boxes_of self.now.standing) (three_named R.Mark.named p q r) result }
+        ensures law { AskLaw R.Mark.rank R.meaning R.Mark.named self.now p q r result }
     {
         self.lie_together(p, q, r)
     }
 
     // Whether the marks of three codes lie together in one box of the list that stands.
     fn lie_together(&self, p: u32, q: u32, r: u32) -> Result<bool, BenchFault>
-        ensures { Asks Mark-as-Scale.rank self.now.solved (boxes_of self.now.standing) (three_named Mark-as-Scale.named p q r) result }
+        ensures { Asks R.Mark.rank self.now.solved (boxes_of self.now.standing) (three_named R.Mark.named p q r) result }
     {
         if self.solved.is_none() {
             return Err(BenchFault::Unsolved);
@@ -41,15 +41,15 @@ impl<R: Recording> Bench<R> {
 
     // Limits with which the rule is true, as codes, if there are any.
     pub fn find(&self) -> Result<Option<(u32, u32, u32)>, BenchFault>
-        ensures list { Finds Mark-as-Scale.code Mark-as-Scale.picked self.now.solved (boxes_of self.now.standing) result }
-        ensures law { FindLaw Mark-as-Scale.rank R.Recording.meaning Mark-as-Scale.code self.now result }
+        ensures list { Finds R.Mark.code R.Mark.picked self.now.solved (boxes_of self.now.standing) result }
+        ensures law { FindLaw R.Mark.rank R.meaning R.Mark.code self.now result }
     {
         self.first_picks()
     }
 
     // The codes of the picks of the first box that has them.
     fn first_picks(&self) -> Result<Option<(u32, u32, u32)>, BenchFault>
-        ensures { Finds Mark-as-Scale.code Mark-as-Scale.picked self.now.solved (boxes_of self.now.standing) result }
+        ensures { Finds R.Mark.code R.Mark.picked self.now.solved (boxes_of self.now.standing) result }
     {
         if self.solved.is_none() {
             return Err(BenchFault::Unsolved);

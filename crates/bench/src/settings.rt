@@ -24,7 +24,7 @@ fn known_channel(channel: usize, channels: usize) -> Result<usize, TapeFault>
 
 // The mark of a code.
 pub(crate) fn named_mark<S: Scale>(number: u32) -> Result<S, ScaleFault>
-    ensures { result ≡ ok_or (S.Scale.named number) NoMark }
+    ensures { result ≡ ok_or (S.named number) NoMark }
 {
     match S::of_code(number) {
         Some(mark) => Ok(mark),
@@ -33,7 +33,7 @@ pub(crate) fn named_mark<S: Scale>(number: u32) -> Result<S, ScaleFault>
 }
 
 fn fit_operand<S: Scale>(operand: Operand<u32>, channels: usize) -> Result<Operand<S>, TapeFault>
-    ensures { result ≡ fitted_operand S.Scale.named channels operand }
+    ensures { result ≡ fitted_operand S.named channels operand }
 {
     match operand {
         Operand::Limit(limit) => Ok(Operand::Limit(limit)),
@@ -44,7 +44,7 @@ fn fit_operand<S: Scale>(operand: Operand<u32>, channels: usize) -> Result<Opera
 
 // The part with marks in place of codes.
 fn fit_part<S: Scale>(part: Part<u32>, channels: usize) -> Result<Part<S>, TapeFault>
-    ensures { result ≡ fitted_part S.Scale.named channels part }
+    ensures { result ≡ fitted_part S.named channels part }
 {
     match part {
         Part::Comparison {
@@ -81,7 +81,7 @@ pub(crate) fn fit_parts<S: Scale>(
 ) -> Result<(), (usize, TapeFault)>
     requires few { length parts.now ≤ 24 }
     requires ordered { Ordered parts.now }
-    ensures { Fitted result (parts_of fresh.new) (fitted_from S.Scale.named channels 0 parts.now) }
+    ensures { Fitted result (parts_of fresh.new) (fitted_from S.named channels 0 parts.now) }
 {
     fresh.clear();
     for part in 0..parts.len() {

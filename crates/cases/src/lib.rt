@@ -1,4 +1,6 @@
 // Worked cases that are run: rules over small recordings, with the sheet or the refusal that each must give.
+#![tactic(auto)]
+
 #[cfg(test)]
 mod benches;
 #[cfg(test)]

@@ -1,4 +1,6 @@
 // Record faults by example: which bytes pass the check, and what is told of those that do not.
+#![tactic(auto)]
+
 #[cfg(test)]
 mod tests {
     use filed::{FiledRecording, check_records};

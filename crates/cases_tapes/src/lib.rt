@@ -1,4 +1,6 @@
 // Tapes and layers by example: which changes are refused, and what is told after those that are taken.
+#![tactic(auto)]
+
 #[cfg(test)]
 mod tests {
     use layers::{Difference, Peak};

@@ -1,6 +1,6 @@
 -- What one turn of a loop over boxes does to the list. Assumes nothing.
 use Rattle.std.proofs.Common.{◌≡◌, ℕ, suc, ◌+◌, ◌<◌, ◌≤◌, Bool, true, false, cond, ◌||◌, ltb, List, [], ◌∷◌, ◌++◌, map, length, get_or, take, drop, set, Ok, Err, vec_items, vec_len, Result, sym, refl, ap, ◌∙◌, subst, append_assoc, append-nil, arith, rules}
-use lib.ListN.{length_map}
+use lib.ListN.{length-map}
 use Rattle.std.proofs.lemmas.List.{drop_more, drop_all, drop-map, take-map, map_push, drop-set-lt, take_more_set}
 use Rattle.std.proofs.lemmas.Bool.Decides.{nat_tests}
 use Rattle.domain.specs.declared.lists.Domain.{Domain}
@@ -11,10 +11,10 @@ use Rattle.domain.specs.Boxes.{sides_of, contains_box, empty_box, overlap_box}
 use Rattle.domain.specs.Listed.{sides_in, boxes_of, reached}
 
 pub length_sides : {S : Type 0} (bs : List (Orthotope S)) → length (sides_in bs) ≡ length bs
-length_sides bs = length_map bs sides_of
+length_sides bs = length-map bs sides_of
 
 pub length_boxes : {S : Type 0} (d : Domain S) → length (boxes_of d) ≡ vec_len d.boxes
-length_boxes d = length_map (vec_items d.boxes) sides_of ∙ sym d.boxes.ok.0
+length_boxes d = length-map (vec_items d.boxes) sides_of ∙ sym d.boxes.ok.0
 
 -- the boxes from the i-th on: that box, and the ones behind it
 pub boxes_at : {S : Type 0} (items bs : List (Orthotope S)) → bs ≡ items → (i : ℕ) (x : Orthotope S) → i < length bs → x ≡ get_or bs i x → drop i (sides_in items) ≡ sides_of x ∷ drop (i + 1) (sides_in items)
@@ -28,7 +28,7 @@ boxes_at items bs same i x h e =
 
 -- no box is left
 pub boxes_end : {S : Type 0} (items bs : List (Orthotope S)) → bs ≡ items → (i : ℕ) → length bs ≤ i → drop i (sides_in items) ≡ []
-boxes_end items bs same i h = drop_all i (sides_in items) (omega (arith, length_map items sides_of, ap length same))
+boxes_end items bs same i h = drop_all i (sides_in items) (omega (arith, length-map items sides_of, ap length same))
 
 module _ {S : Type 0} (rank : S → ℕ) where
   pub some_step : (x : Bool) (b : Sides S) (ys rest : Boxes S) (y : Sides S) → x ≡ some_contains rank ys b → ys ≡ y ∷ rest → x ≡ (contains_box rank y b || some_contains rank rest b)

@@ -13,7 +13,7 @@ use scale::Scale;
 impl<S: Scale> Interval<S> {
     // The mark that the scale picks in it, if there is one.
     pub fn pick(self) -> Option<S>
-        ensures { result ≡ S.Scale.picked self.lower self.upper }
+        ensures { result ≡ S.picked self.lower self.upper }
     {
         S::pick(self.lower, self.upper)
     }
@@ -22,14 +22,14 @@ impl<S: Scale> Interval<S> {
 impl<S: Scale> Orthotope<S> {
     // Whether each mark lies in its side.
     pub fn holds(&self, p: S, q: S, r: S) -> bool
-        ensures { Decides result (In rank (p ∷ q ∷ r ∷ []) (sides_of self.now)) }
+        ensures { Decides result (In S.rank (p ∷ q ∷ r ∷ []) (sides_of self.now)) }
     {
         self.p.holds(p) && self.q.holds(q) && self.r.holds(r)
     }
 
     // The pick of each side, where all three have one.
     pub fn pick(&self) -> Option<(S, S, S)>
-        ensures { three result ≡ picks_of S.Scale.picked (sides_of self.now) }
+        ensures { three result ≡ picks_of S.picked (sides_of self.now) }
     {
         let p = self.p.pick()?;
         let q = self.q.pick()?;
@@ -41,22 +41,22 @@ impl<S: Scale> Orthotope<S> {
 impl<S: Scale> Domain<S> {
     // Whether the marks lie together in one box.
     pub fn covers(&self, p: S, q: S, r: S) -> bool
-        ensures { Decides result (Covered rank (p ∷ q ∷ r ∷ []) (boxes_of self.now)) }
+        ensures { Decides result (Covered S.rank (p ∷ q ∷ r ∷ []) (boxes_of self.now)) }
     {
         some_holds(self.boxes(), p, q, r)
     }
 
     // The picks of the first box that has them.
     pub fn find(&self) -> Option<(S, S, S)>
-        ensures value { three result ≡ first_picked S.Scale.picked (boxes_of self.now) }
-        ensures found { Finds rank 3 (boxes_of self.now) (three result) }
+        ensures value { three result ≡ first_picked S.picked (boxes_of self.now) }
+        ensures found { Finds S.rank 3 (boxes_of self.now) (three result) }
     {
         first_picks(self.boxes())
     }
 }
 
 fn some_holds<S: Scale>(boxes: &[Orthotope<S>], p: S, q: S, r: S) -> bool
-    ensures { Decides result (Covered rank (p ∷ q ∷ r ∷ []) (sides_in boxes.now)) }
+    ensures { Decides result (Covered S.rank (p ∷ q ∷ r ∷ []) (sides_in boxes.now)) }
 {
     for b in boxes {
         if b.holds(p, q, r) {
@@ -67,8 +67,8 @@ fn some_holds<S: Scale>(boxes: &[Orthotope<S>], p: S, q: S, r: S) -> bool
 }
 
 fn first_picks<S: Scale>(boxes: &[Orthotope<S>]) -> Option<(S, S, S)>
-    ensures value { three result ≡ first_picked S.Scale.picked (sides_in boxes.now) }
-    ensures found { Finds rank 3 (sides_in boxes.now) (three result) }
+    ensures value { three result ≡ first_picked S.picked (sides_in boxes.now) }
+    ensures found { Finds S.rank 3 (sides_in boxes.now) (three result) }
 {
     for b in boxes {
         let marks = b.pick();

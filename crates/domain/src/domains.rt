@@ -66,7 +66,7 @@ impl<S: Scale> Domain<S> {
 
     // Whether some box contains this one.
     fn has_container(&self, inner: &Orthotope<S>) -> bool
-        ensures { result ≡ some_contains rank (boxes_of self.now) (sides_of inner.now) }
+        ensures { result ≡ some_contains S.rank (boxes_of self.now) (sides_of inner.now) }
     {
         for b in self.boxes.iter() {
             if b.contains(inner) {
@@ -78,7 +78,7 @@ impl<S: Scale> Domain<S> {
 
     // Lets the boxes go that this one contains.
     fn drop_contained(&mut self, outer: &Orthotope<S>)
-        ensures { boxes_of self.new ≡ outside rank (sides_of outer.now) (boxes_of self.old) }
+        ensures { boxes_of self.new ≡ outside S.rank (sides_of outer.now) (boxes_of self.old) }
     {
         let mut count = 0;
         for i in 0..self.boxes.len() {
@@ -100,7 +100,7 @@ impl<S: Scale> Domain<S> {
 
     // Adds a box: an empty or contained one is skipped, the ones that it contains leave, and it goes to the end.
     pub fn add(&mut self, b: Orthotope<S>) -> Result<(), Full>
-        ensures { reached result (boxes_of self.new) ≡ added rank (boxes_of self.old) (sides_of b) }
+        ensures { reached result (boxes_of self.new) ≡ added S.rank (boxes_of self.old) (sides_of b) }
     {
         if b.is_empty() || self.has_container(&b) {
             return Ok(());
@@ -115,14 +115,14 @@ impl<S: Scale> Domain<S> {
 
     // Adds each box of another domain, in order.
     pub fn join(&mut self, other: &Domain<S>) -> Result<(), Full>
-        ensures { reached result (boxes_of self.new) ≡ joined rank (boxes_of self.old) (boxes_of other.now) }
+        ensures { reached result (boxes_of self.new) ≡ joined S.rank (boxes_of self.old) (boxes_of other.now) }
     {
         self.add_all(other.boxes())
     }
 
     // Adds each box given, in order.
     fn add_all(&mut self, boxes: &[Orthotope<S>]) -> Result<(), Full>
-        ensures { reached result (boxes_of self.new) ≡ joined rank (boxes_of self.old) (sides_in boxes.now) }
+        ensures { reached result (boxes_of self.new) ≡ joined S.rank (boxes_of self.old) (sides_in boxes.now) }
     {
         for b in boxes {
             self.add(*b)?;
@@ -132,7 +132,7 @@ impl<S: Scale> Domain<S> {
 
     // Becomes the left boxes with each box of the right added, in order.
     pub fn unite(&mut self, left: &Domain<S>, right: &Domain<S>) -> Result<(), Full>
-        ensures { reached result (boxes_of self.new) ≡ joined rank (boxes_of left.now) (boxes_of right.now) }
+        ensures { reached result (boxes_of self.new) ≡ joined S.rank (boxes_of left.now) (boxes_of right.now) }
     {
         self.copy_from(left);
         self.join(right)
@@ -140,7 +140,7 @@ impl<S: Scale> Domain<S> {
 
     // Becomes the overlaps of each box of the left with each of the right, in order.
     pub fn meet(&mut self, left: &Domain<S>, right: &Domain<S>) -> Result<(), Full>
-        ensures { reached result (boxes_of self.new) ≡ met rank (boxes_of left.now) (boxes_of right.now) }
+        ensures { reached result (boxes_of self.new) ≡ met S.rank (boxes_of left.now) (boxes_of right.now) }
     {
         self.boxes.clear();
         let mut end = Ok(());

@@ -1,4 +1,6 @@
 // Boxes of limits, and lists of them: the domain on which a rule is true.
+#![tactic(auto)]
+
 mod choices;
 mod domains;
 mod intervals;

@@ -35,21 +35,21 @@ impl<S: Scale> Orthotope<S> {
 
     // Whether some side is empty.
     pub fn is_empty(&self) -> bool
-        ensures { result ≡ empty_box rank (sides_of self.now) }
+        ensures { result ≡ empty_box S.rank (sides_of self.now) }
     {
         self.p.is_empty() || self.q.is_empty() || self.r.is_empty()
     }
 
     // Whether each side contains the other's.
     pub fn contains(&self, other: &Orthotope<S>) -> bool
-        ensures { result ≡ contains_box rank (sides_of self.now) (sides_of other.now) }
+        ensures { result ≡ contains_box S.rank (sides_of self.now) (sides_of other.now) }
     {
         self.p.contains(other.p) && self.q.contains(other.q) && self.r.contains(other.r)
     }
 
     // What lies in both.
     pub fn overlap(&self, other: &Orthotope<S>) -> Orthotope<S>
-        ensures { sides_of result ≡ overlap_box rank (sides_of self.now) (sides_of other.now) }
+        ensures { sides_of result ≡ overlap_box S.rank (sides_of self.now) (sides_of other.now) }
     {
         Orthotope {
             p: self.p.overlap(other.p),

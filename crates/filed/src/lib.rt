@@ -1,4 +1,6 @@
 // The filed recording: records as they lie in memory, checked and shown as a recording.
+#![tactic(auto)]
+
 mod checks;
 mod files;
 mod lent;

@@ -1,4 +1,6 @@
 // Formulas: what a rule says, as a list of parts.
+#![tactic(auto)]
+
 mod formulas;
 mod parts;
 

@@ -1,4 +1,6 @@
 // The library for hosts in other languages: one call from a rule and records to the listing.
+#![tactic(auto)]
+
 mod calls;
 mod faults;
 

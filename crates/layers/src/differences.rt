@@ -57,8 +57,8 @@ impl<R: Recording<Mark = Reading>> Layer<R, DifferenceOf> {
     pub fn new(below: R, channel: usize) -> Difference<R>
         ensures below { result.below ≡ below }
         ensures channel { result.working.channel ≡ channel }
-        ensures number { result.number ≡ (R.Recording.meaning below).channels }
-        ensures differences { DifferenceOver channel (R.Recording.meaning below) (told_by (held (pos 0)) R.Recording.meaning (λ s. difference_of s.channel) result) }
+        ensures number { result.number ≡ (R.meaning below).channels }
+        ensures differences { DifferenceOver channel (R.meaning below) (told_by (held (pos 0)) R.meaning (λ s. difference_of s.channel) result) }
     {
         Layer::over(below, DifferenceOf::at(channel))
     }

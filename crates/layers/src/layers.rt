@@ -13,7 +13,7 @@ pub trait Working<S: Scale> {
     ghost worked: { Self → Meaning S → ℕ → S };
 
     fn work<R: Recording<Mark = S>>(&self, below: &R, point: usize) -> S
-        ensures { result ≡ worked self.now (R.Recording.meaning below.now) point };
+        ensures { result ≡ worked self.now (R.meaning below.now) point };
 }
 
 #[derive(Drop)]
@@ -36,7 +36,7 @@ impl<R: Recording, W> Layer<R, W> {
     pub fn over(below: R, working: W) -> Layer<R, W>
         ensures below { result.below ≡ below }
         ensures working { result.working ≡ working }
-        ensures number { result.number ≡ (R.Recording.meaning below).channels }
+        ensures number { result.number ≡ (R.meaning below).channels }
     {
         let number = below.channels();
         Layer {
@@ -53,7 +53,7 @@ impl<R: Recording, W> Layer<R, W> {
     }
 
     fn is_added(&self, channel: usize) -> bool
-        ensures { result ≡ shows_added self.now.number (R.Recording.meaning self.now.below) channel }
+        ensures { result ≡ shows_added self.now.number (R.meaning self.now.below) channel }
     {
         channel == self.number && takes(self.below.channels(), self.number)
     }
@@ -76,7 +76,7 @@ impl<R, W: Drop> Layer<R, W> {
 impl<R: Recording, W: Working<R::Mark>> Recording for Layer<R, W> {
     type Mark = R::Mark;
 
-    ghost meaning = { told_by R.Mark.Scale.resting R.Recording.meaning W.Working.worked };
+    ghost meaning = { told_by R.Mark.resting R.meaning W.worked };
 
     ghost sound = { Prim.search rules };
 
@@ -118,7 +118,7 @@ impl<R: Recording, W: Working<R::Mark>> Recording for Layer<R, W> {
 
 impl<R: Tape, W: Working<R::Mark>> Tape for Layer<R, W> {
     fn add(&mut self, tick: u32) -> Result<(), TapeFault>
-        ensures change { Added R.Mark.Scale.resting (told_by R.Mark.Scale.resting R.Recording.meaning W.Working.worked self.old) tick result (told_by R.Mark.Scale.resting R.Recording.meaning W.Working.worked self.new) }
+        ensures change { Added R.Mark.resting (told_by R.Mark.resting R.meaning W.worked self.old) tick result (told_by R.Mark.resting R.meaning W.worked self.new) }
         ensures same { SameLayer self.old self.new }
     {
         self.below.add(tick)
@@ -126,7 +126,7 @@ impl<R: Tape, W: Working<R::Mark>> Tape for Layer<R, W> {
 
     // Below, the added channel would be refused as none at all.
     fn amend(&mut self, point: usize, channel: usize, mark: R::Mark) -> Result<(), TapeFault>
-        ensures change { Amended (told_by R.Mark.Scale.resting R.Recording.meaning W.Working.worked self.old) point channel mark result (told_by R.Mark.Scale.resting R.Recording.meaning W.Working.worked self.new) }
+        ensures change { Amended (told_by R.Mark.resting R.meaning W.worked self.old) point channel mark result (told_by R.Mark.resting R.meaning W.worked self.new) }
         ensures same { SameLayer self.old self.new }
     {
         if self.is_added(channel) && point < self.points() {
@@ -136,7 +136,7 @@ impl<R: Tape, W: Working<R::Mark>> Tape for Layer<R, W> {
     }
 
     fn withdraw(&mut self) -> Result<(), TapeFault>
-        ensures change { Withdrawn (told_by R.Mark.Scale.resting R.Recording.meaning W.Working.worked self.old) result (told_by R.Mark.Scale.resting R.Recording.meaning W.Working.worked self.new) }
+        ensures change { Withdrawn (told_by R.Mark.resting R.meaning W.worked self.old) result (told_by R.Mark.resting R.meaning W.worked self.new) }
         ensures same { SameLayer self.old self.new }
     {
         self.below.withdraw()

@@ -1,4 +1,6 @@
 // Layers: a recording with one channel more, worked out from the channels below.
+#![tactic(auto)]
+
 mod differences;
 mod layers;
 mod peaks;

@@ -16,13 +16,13 @@ pub struct PeakOf {
 pub type Peak<R> = Layer<R, PeakOf>;
 
 fn later<S: Scale>(a: S, b: S) -> S
-    ensures { result ≡ later S.Scale.rank a b }
+    ensures { result ≡ later S.rank a b }
 {
     if a.is_before(b) { b } else { a }
 }
 
 impl<S: Scale> Working<S> for PeakOf {
-    ghost worked = { λ s. peak_of S.Scale.rank s.channel };
+    ghost worked = { λ s. peak_of S.rank s.channel };
 
     fn work<R: Recording<Mark = S>>(&self, below: &R, point: usize) -> S {
         let mut peak = below.mark(0, self.channel);
@@ -46,8 +46,8 @@ impl<R: Recording> Layer<R, PeakOf> {
     pub fn new(below: R, channel: usize) -> Peak<R>
         ensures below { result.below ≡ below }
         ensures channel { result.working.channel ≡ channel }
-        ensures number { result.number ≡ (R.Recording.meaning below).channels }
-        ensures peak { PeakOver Mark-as-Scale.rank Mark-as-Scale.resting channel (R.Recording.meaning below) (told_by Mark-as-Scale.resting R.Recording.meaning (λ s. peak_of Mark-as-Scale.rank s.channel) result) }
+        ensures number { result.number ≡ (R.meaning below).channels }
+        ensures peak { PeakOver R.Mark.rank R.Mark.resting channel (R.meaning below) (told_by R.Mark.resting R.meaning (λ s. peak_of R.Mark.rank s.channel) result) }
     {
         Layer::over(below, PeakOf::at(channel))
     }

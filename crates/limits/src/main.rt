@@ -1,4 +1,6 @@
 // `limits`: from rule.txt and points.rec in the folder that it is run in to the listing at point 0, or the refusal.
+#![tactic(auto)]
+
 ghost use Rattle.std.specs.Prelude.{◌≤◌, length};
 
 use host::{stop_limits, stop_limits_refusal};

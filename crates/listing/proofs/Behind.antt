@@ -1,6 +1,6 @@
 -- Text put behind text, as far as there is room. Assumes nothing.
 use Rattle.std.proofs.Common.{◌≡◌, ℕ, zero, suc, ◌+◌, ◌-◌, ◌≤◌, min, List, [], ◌∷◌, ◌++◌, length, take, drop, sym, refl, ap, ◌∙◌, ⊎_elim, append_assoc, arith, length-take-le, take_all, take_at}
-use lib.Seq.{take_append_add}
+use lib.Seq.{take-append-add}
 use Rattle.std.proofs.str.Laws.{order}
 use Rattle.listing.specs.Held.{behind}
 
@@ -29,7 +29,7 @@ pushed held rest bs part len count within fits few is =
     let all : 4096 ≡ length t + (4096 - len) = omega arith in
     let part_long : length part ≡ count = ap length is ∙ length-take-le count bs (omega arith) in
     ap (λ n. take (n + count) (t ++ (part ++ rest))) (sym long)
-    ∙ take_append_add t (part ++ rest) count
+    ∙ take-append-add t (part ++ rest) count
     ∙ ap (λ (l : List ℕ). t ++ l) (take_at part rest count part_long ∙ is ∙ front bs (4096 - len) count few)
-    ∙ sym (take_append_add t bs (4096 - len))
+    ∙ sym (take-append-add t bs (4096 - len))
     ∙ ap (λ n. take n (t ++ bs)) (sym all)

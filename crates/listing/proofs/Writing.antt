@@ -1,6 +1,6 @@
 -- One text written after another is both written. Assumes nothing.
 use Rattle.std.proofs.Common.{◌≡◌, ℕ, ◌+◌, ◌≤◌, List, ◌++◌, length, take, drop, sym, ap, ◌∙◌, append_assoc, arith, length-append, length-take-le}
-use lib.Seq.{drop_append_add}
+use lib.Seq.{drop-append-add}
 use Rattle.std.proofs.lemmas.List.{take_at, drop-drop}
 use Rattle.listing.specs.Written.{Written}
 
@@ -15,7 +15,7 @@ written_then before between after at next one two first second long place fits =
     let long_front : length front ≡ next = length-append (take at before) one ∙ ap (λ k. k + m) (length-take-le at before (omega arith)) ∙ sym place in
     let kept : take next between ≡ front = ap (take next) was ∙ take_at front rest next long_front in
     let left : drop (next + n) between ≡ drop (at + length (one ++ two)) before =
-    ap (drop (next + n)) was ∙ ap (λ k. drop (k + n) (front ++ rest)) (sym long_front) ∙ drop_append_add front rest n ∙ drop-drop n (at + m) before ∙ ap (λ k. drop k before) (omega arith)
+    ap (drop (next + n)) was ∙ ap (λ k. drop (k + n) (front ++ rest)) (sym long_front) ∙ drop-append-add front rest n ∙ drop-drop n (at + m) before ∙ ap (λ k. drop k before) (omega arith)
     in
     second (omega arith)
     ∙ ap (λ l. l ++ (two ++ drop (next + n) between)) kept

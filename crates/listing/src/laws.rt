@@ -5,5 +5,5 @@ use scale::Scale;
 
 // For every scale: no two lists of boxes have one listing. There is nothing to do; the contract is the theorem.
 pub fn listings_differ<S: Scale>()
-    ensures { ListingsApart S.Scale.rank S.Scale.text }
+    ensures { ListingsApart S.rank S.text }
 {}

@@ -1,4 +1,6 @@
 // The listing of a domain: its text, made whole and then written to an output.
+#![tactic(auto)]
+
 mod held;
 mod laws;
 mod listings;

@@ -33,7 +33,7 @@ impl Listing {
     }
 
     fn push_comparison<S: Scale>(&mut self, name: &[u8], sign: &[u8], mark: S)
-        ensures { state_of self.new ≡ compared text (state_of self.old) name.now sign.now mark }
+        ensures { state_of self.new ≡ compared S.text (state_of self.old) name.now sign.now mark }
     {
         let word = mark.to_text();
         self.separate();
@@ -44,7 +44,7 @@ impl Listing {
     }
 
     fn push_lower<S: Scale>(&mut self, name: &[u8], cut: Cut<S>)
-        ensures { state_of self.new ≡ lowered text (state_of self.old) name.now cut }
+        ensures { state_of self.new ≡ lowered S.text (state_of self.old) name.now cut }
     {
         match cut {
             Cut::Below(mark) => self.push_comparison(name, b">=", mark),
@@ -54,7 +54,7 @@ impl Listing {
     }
 
     fn push_upper<S: Scale>(&mut self, name: &[u8], cut: Cut<S>)
-        ensures { state_of self.new ≡ uppered text (state_of self.old) name.now cut }
+        ensures { state_of self.new ≡ uppered S.text (state_of self.old) name.now cut }
     {
         match cut {
             Cut::Below(mark) => self.push_comparison(name, b"<", mark),
@@ -65,7 +65,7 @@ impl Listing {
 
     // What one limit may be: nothing, one comparison or two.
     fn push_side<S: Scale>(&mut self, name: &[u8], side: Interval<S>)
-        ensures { state_of self.new ≡ sided text (state_of self.old) name.now side }
+        ensures { state_of self.new ≡ sided S.text (state_of self.old) name.now side }
     {
         self.push_lower(name, side.lower);
         self.push_upper(name, side.upper);
@@ -83,7 +83,7 @@ impl Listing {
 
     // One line.
     fn push_box<S: Scale>(&mut self, b: &Orthotope<S>)
-        ensures { state_of self.new ≡ ended (boxed text (state_of self.old) names (sides_of b.now)) }
+        ensures { state_of self.new ≡ ended (boxed S.text (state_of self.old) names (sides_of b.now)) }
     {
         self.push_side(b"p", b.p);
         self.push_side(b"q", b.q);
@@ -92,7 +92,7 @@ impl Listing {
     }
 
     fn push_boxes<S: Scale>(&mut self, boxes: &[Orthotope<S>])
-        ensures { state_of self.new ≡ lined text (state_of self.old) (sides_in boxes.now) }
+        ensures { state_of self.new ≡ lined S.text (state_of self.old) (sides_in boxes.now) }
     {
         for b in boxes {
             self.push_box(b);
@@ -101,7 +101,7 @@ impl Listing {
 
     // The listing of a domain.
     pub fn of<S: Scale>(domain: &Domain<S>) -> Listing
-        ensures { text_of result ≡ listing_text text (boxes_of domain.now) }
+        ensures { text_of result ≡ listing_text S.text (boxes_of domain.now) }
     {
         let mut listing = Listing::blank();
         listing.push_heading(domain.len() as u32);

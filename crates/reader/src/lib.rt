@@ -1,4 +1,6 @@
 // The plain reading of a rule's text, which knows of no scale: constants stay places in the text.
+#![tactic(auto)]
+
 mod appending;
 mod readers;
 

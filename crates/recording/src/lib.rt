@@ -1,4 +1,6 @@
 // Recordings and tapes: what can be told of marks at points in time, and changed.
+#![tactic(auto)]
+
 mod faults;
 mod recordings;
 mod tapes;

@@ -37,5 +37,5 @@ pub trait Recording {
         ensures { result ≡ (meaning self.now).mark point channel };
 
     // No value of the type tells anything else than a sound recording.
-    ghost sound: { (s : Self) → Sound Self.Mark.Scale.resting (meaning s) };
+    ghost sound: { (s : Self) → Sound Self.Mark.resting (meaning s) };
 }

@@ -7,13 +7,13 @@ use crate::recordings::Recording;
 pub trait Tape: Recording {
     // Appends a point that repeats the given marks of the last one.
     fn add(&mut self, tick: u32) -> Result<(), TapeFault>
-        ensures { Added Tape.Mark.Scale.resting (Self.Recording.meaning self.old) tick result (Self.Recording.meaning self.new) };
+        ensures { Added Self.Mark.resting (Self.meaning self.old) tick result (Self.meaning self.new) };
 
     // Puts another mark in the place of a given one.
     fn amend(&mut self, point: usize, channel: usize, mark: Self::Mark) -> Result<(), TapeFault>
-        ensures { Amended (Self.Recording.meaning self.old) point channel mark result (Self.Recording.meaning self.new) };
+        ensures { Amended (Self.meaning self.old) point channel mark result (Self.meaning self.new) };
 
     // Takes the last point away.
     fn withdraw(&mut self) -> Result<(), TapeFault>
-        ensures { Withdrawn (Self.Recording.meaning self.old) result (Self.Recording.meaning self.new) };
+        ensures { Withdrawn (Self.meaning self.old) result (Self.meaning self.new) };
 }

@@ -1,4 +1,6 @@
 // The row tape: a recording of four given channels that takes changes.
+#![tactic(auto)]
+
 mod row_tapes;
 mod rows;
 

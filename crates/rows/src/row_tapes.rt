@@ -13,7 +13,7 @@ const CHANNELS: usize = 4;
 impl<S: Scale> Row<S> {
     // A row where nothing was recorded.
     pub fn blank() -> Row<S>
-        ensures { result ≡ blank S.Scale.resting }
+        ensures { result ≡ blank S.resting }
     {
         let rest = S::rest();
         Row {
@@ -27,7 +27,7 @@ impl<S: Scale> Row<S> {
 
     // The mark of a channel, and rest for a channel that no row has.
     fn mark(self, channel: usize) -> S
-        ensures { result ≡ mark_in S.Scale.resting self channel }
+        ensures { result ≡ mark_in S.resting self channel }
     {
         match channel {
             0 => self.c0,
@@ -42,7 +42,7 @@ impl<S: Scale> Row<S> {
     fn with_mark(self, channel: usize, mark: S) -> Row<S>
         requires { channel < 4 }
         ensures tick { result.tick ≡ self.tick }
-        ensures marks { (c : ℕ) → mark_in S.Scale.resting result c ≡ (if nat_eq c channel then mark else mark_in S.Scale.resting self c) }
+        ensures marks { (c : ℕ) → mark_in S.resting result c ≡ (if nat_eq c channel then mark else mark_in S.resting self c) }
     {
         match channel {
             0 => Row { c0: mark, ..self },
@@ -85,7 +85,7 @@ impl<S> RowTape<S> {
 impl<S: Scale> Recording for RowTape<S> {
     type Mark = S;
 
-    ghost meaning = { λ s. rowed S.Scale.resting s.rows.items s.points };
+    ghost meaning = { λ s. rowed S.resting s.rows.items s.points };
 
     ghost sound = { first_of (Prim.search rules, Prim.grind (arith, Self.row.coded.inj)) };
 
@@ -125,8 +125,8 @@ impl<S: Scale> Recording for RowTape<S> {
 impl<S: Scale> RowTape<S> {
     // The row that a new point repeats.
     fn last(&self) -> Row<S>
-        ensures some { 0 < self.now.points → result ≡ slice_index_or self.now.rows.items (self.now.points - 1) (blank S.Scale.resting) }
-        ensures none { self.now.points ≡ 0 → result ≡ blank S.Scale.resting }
+        ensures some { 0 < self.now.points → result ≡ slice_index_or self.now.rows.items (self.now.points - 1) (blank S.resting) }
+        ensures none { self.now.points ≡ 0 → result ≡ blank S.resting }
     {
         if self.points > 0 {
             self.rows[self.points - 1]
@@ -138,7 +138,7 @@ impl<S: Scale> RowTape<S> {
 
 impl<S: Scale> Tape for RowTape<S> {
     fn add(&mut self, tick: u32) -> Result<(), TapeFault>
-        ensures change { Added S.Scale.resting (rowed S.Scale.resting self.old.rows.items self.old.points) tick result (rowed S.Scale.resting self.new.rows.items self.new.points) }
+        ensures change { Added S.resting (rowed S.resting self.old.rows.items self.old.points) tick result (rowed S.resting self.new.rows.items self.new.points) }
         ensures left { RowsLeft self.old.rows.items self.new.rows.items self.new.points }
     {
         if self.points == self.capacity() {
@@ -157,7 +157,7 @@ impl<S: Scale> Tape for RowTape<S> {
     }
 
     fn amend(&mut self, point: usize, channel: usize, mark: S) -> Result<(), TapeFault>
-        ensures change { Amended (rowed S.Scale.resting self.old.rows.items self.old.points) point channel mark result (rowed S.Scale.resting self.new.rows.items self.new.points) }
+        ensures change { Amended (rowed S.resting self.old.rows.items self.old.points) point channel mark result (rowed S.resting self.new.rows.items self.new.points) }
         ensures left { RowsLeft self.old.rows.items self.new.rows.items self.new.points }
     {
         if point >= self.points {
@@ -172,7 +172,7 @@ impl<S: Scale> Tape for RowTape<S> {
     }
 
     fn withdraw(&mut self) -> Result<(), TapeFault>
-        ensures change { Withdrawn (rowed S.Scale.resting self.old.rows.items self.old.points) result (rowed S.Scale.resting self.new.rows.items self.new.points) }
+        ensures change { Withdrawn (rowed S.resting self.old.rows.items self.old.points) result (rowed S.resting self.new.rows.items self.new.points) }
         ensures left { RowsLeft self.old.rows.items self.new.rows.items self.new.points }
     {
         if self.points == 0 {

@@ -11,7 +11,7 @@ use scale::{Scale, ScaleFault};
 
 fn coded_operand<S: Scale>(text: &[u8], operand: Operand<Run>) -> Result<Operand<u32>, ScaleFault>
     requires { Stands text.now operand }
-    ensures { MatchResult result (CodedOperand S.Scale.code S.Scale.text text.now operand) (UnreadOperand S.Scale.code S.Scale.text text.now operand) }
+    ensures { MatchResult result (CodedOperand S.code S.text text.now operand) (UnreadOperand S.code S.text text.now operand) }
 {
     match operand {
         Operand::Limit(name) => Ok(Operand::Limit(name)),
@@ -25,7 +25,7 @@ fn coded_operand<S: Scale>(text: &[u8], operand: Operand<Run>) -> Result<Operand
 
 fn coded_part<S: Scale>(text: &[u8], part: Part<Run>) -> Result<Part<u32>, ScaleFault>
     requires { Drawn text.now part }
-    ensures { MatchResult result (λ out. CodedPart S.Scale.code S.Scale.text text.now part out × (reach out ≡ reach part)) (UnreadPart S.Scale.code S.Scale.text text.now part) }
+    ensures { MatchResult result (λ out. CodedPart S.code S.text text.now part out × (reach out ≡ reach part)) (UnreadPart S.code S.text text.now part) }
 {
     match part {
         Part::Comparison {
@@ -60,7 +60,7 @@ pub(crate) fn code_parts<S: Scale>(
     fresh: &mut Formula<u32>,
 ) -> Result<(), ScaleFault>
     requires { AllDrawn text.now (parts_of draft.now) }
-    ensures { MatchResult result (λ _. AllCoded S.Scale.code S.Scale.text text.now (parts_of draft.now) (parts_of fresh.new)) (FirstUnread S.Scale.code S.Scale.text text.now (parts_of draft.now)) }
+    ensures { MatchResult result (λ _. AllCoded S.code S.text text.now (parts_of draft.now) (parts_of fresh.new)) (FirstUnread S.code S.text text.now (parts_of draft.now)) }
 {
     fresh.clear();
     let parts = draft.parts();

@@ -1,9 +1,9 @@
 -- Stages are numbers in a row. Assumes nothing.
-use Rattle.std.proofs.Common.{◌≡◌, ℕ, ◌<◌, ℤ, pos, negsuc, ◌+ℤ◌, ◌≤ℤ◌, ◌<ℤ◌, refl, ap, arith}
+use Rattle.std.proofs.Common.{◌≡◌, ℕ, ◌<◌, ℤ, pos, negsuc, ◌≤ℤ◌, ◌<ℤ◌, refl, ap, arith}
 use Rattle.std.proofs.lemmas.Int.{ints}
 use Rattle.std.proofs.lemmas.Bool.Decides.{nat_tests}
 use Rattle.scale.specs.declared.stages.Stage.{Stage}
-use Rattle.scale.specs.declared.stages.Stage.TheVariants.{Off, Leaving, Travel, Arriving, On}
+use Rattle.scale.specs.declared.stages.Stage.TheVariants.{Off}
 use Rattle.scale.specs.Stages.{stage_code, stage_at, stage_number, stage_of, stages}
 use Rattle.scale.specs.Leaning.{InRow}
 

@@ -1,13 +1,13 @@
 -- The pick among marks that are numbers in a row, proved once for every such scale. Assumes nothing.
-use Rattle.std.specs.Prelude.{◌≡◌, ℕ, ◌+◌, ◌*◌, ◌^◌, ◌<◌, ◌≤◌, Bool, true, false, cond, ℤ, pos, ◌+ℤ◌, ◌-ℤ◌, ◌≤ℤ◌, ◌<ℤ◌, Some, None, ◌≢◌, int_lt, refl}
-use Rattle.std.proofs.Common.{sym, ap, subst, ◌∙◌, arith}
+use Rattle.std.specs.Prelude.{◌≡◌, ℕ, ◌+◌, ◌*◌, ◌^◌, ◌≤◌, Bool, true, false, cond, ℤ, pos, ◌+ℤ◌, ◌-ℤ◌, ◌≤ℤ◌, ◌<ℤ◌, Some, None, ◌≢◌, int_lt, refl}
+use Rattle.std.proofs.Common.{sym, subst, arith}
 use Rattle.std.specs.Option.{option_map}
 use Rattle.std.proofs.lemmas.Int.{ints, by_lt_z}
 use Rattle.scale.specs.declared.cuts.Cut.{Cut}
 use Rattle.scale.specs.declared.cuts.Cut.TheVariants.{LowerEnd, Below, Above, UpperEnd}
 use Rattle.scale.specs.declared.numbered.Row.{Row}
 use Rattle.scale.specs.Cuts.{place, Between}
-use Rattle.scale.specs.Numbered.{edge, last, choice, picked_number, Leaned, Leans}
+use Rattle.scale.specs.Numbered.{edge, choice, picked_number, Leaned, Leans}
 
 -- the marks of a row: each has its number, and each number of the row its mark
 pub record InRow {S : Type 0} (rank : S → ℕ) (number : S → ℤ) (row : Row) (mark : ℤ → S) (rest : S) : Type 0 where

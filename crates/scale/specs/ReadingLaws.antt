@@ -1,21 +1,25 @@
 -- Readings are told apart by their numbers, codes and texts. Assumes nothing.
-use Rattle.std.specs.Prelude.{◌≡◌, ℕ, suc, ◌+◌, ◌-◌, ◌%◌, ◌^◌, ◌<◌, ◌≤◌, ◌⊎◌, List, [], ◌∷◌, length, ℤ, pos, negsuc, ◌+ℤ◌, Some, None, decimal, FitsSigned, refl}
-use Rattle.std.proofs.Common.{sym, ap, subst, ◌∙◌, inl, inr, ⊎_elim, arith, of_z, to_z, rules}
+use Rattle.std.specs.Prelude.{◌≡◌, ℕ, zero, suc, ◌+◌, ◌%◌, ◌^◌, ◌<◌, ◌≤◌, ◌⊎◌, ℤ, pos, negsuc, ◌+ℤ◌, Some, None, decimal, FitsSigned, refl}
+use Rattle.std.proofs.Common.{sym, ap, subst, ◌∙◌, inl, inr, ⊎_elim, arith, of_z, to_z}
 use mathlib.Core.HLevel.{is_prop→PathP}
 use Rattle.std.proofs.Math.Bridge.{le_prop}
 use Rattle.std.specs.Int.Signed.{mag}
-use Rattle.std.specs.Int.{saturate_to_bits, w32}
+use Rattle.std.specs.Int.{w32}
 use Rattle.std.specs.Fmt.{signed_decimal}
 use Rattle.std.specs.List.{AllByRecursion as All}
 use Rattle.std.proofs.lemmas.Fmt.{signed_decimal_injective, decimal_nonempty, length_signed_le, decimal_by_steps}
 use Rattle.std.proofs.ByRecursion.{All-push}
 use Rattle.std.proofs.lemmas.Bool.Decides.{nat_tests}
-use Rattle.std.proofs.str.Laws.{order}
 use Rattle.std.proofs.lemmas.Int.{to_z-of_z, of_z-to_z, ints}
 use Rattle.scale.specs.declared.values.Reading.{Reading}
 use Rattle.scale.specs.Marks.{Names, RunByte, RunText}
 use Rattle.scale.specs.Leaning.{InRow}
 use Rattle.scale.specs.Readings.{held, value_of, readings, above_least, reading_rank, reading_code, reading_named, reading_text}
+
+below_or_not : (a b : ℕ) → (a < b) ⊎ (b ≤ a)
+below_or_not a zero = inr (omega arith)
+below_or_not zero (suc b) = inl (omega arith)
+below_or_not (suc a) (suc b) = elim (below_or_not a b) [ inl h ↦ inl (omega arith) | inr h ↦ inr (omega arith) ]
 
 pub same_reading : (m n : Reading) → m.value ≡ n.value → m ≡ n
 same_reading m n e = λ i. record { value = e i; fits = is_prop→PathP (λ j. mag (e j) < 2 ^ 31) (λ j. le_prop) m.fits n.fits i }
@@ -61,7 +65,7 @@ code_of_named n m h e =
 pub reading_codes_name : Names reading_code reading_named
 reading_codes_name = record {
   found = λ m. named_in (reading_code m) (grind (arith, ints)) ∙ ap Some (held_same m (to_z w32 (reading_code m)) (sym (to_z-of_z w32 m.value (fits_32 m))));
-  true_to = λ n m e. ⊎_elim (λ h. code_of_named n m h e) (λ h. let never : None ≡ Some m = sym (named_out n h) ∙ e in let z : ◌≡◌ {A = ℕ} 0 1 = cc in absurd (omega arith)) (order n (2 ^ 32));
+  true_to = λ n m e. ⊎_elim (λ h. code_of_named n m h e) (λ h. let never : None ≡ Some m = sym (named_out n h) ∙ e in let z : ◌≡◌ {A = ℕ} 0 1 = cc in absurd (omega arith)) (below_or_not n (2 ^ 32));
 }
 
 digit_byte : (n : ℕ) → n < 10 → RunByte (48 + n)

@@ -1,5 +1,5 @@
 -- Readings: the signed 32-bit whole numbers. Assumes nothing.
-use Rattle.std.specs.Prelude.{ℕ, suc, ◌+◌, ◌-◌, ◌^◌, ◌<◌, min, cond, List, ℤ, pos, negsuc, Some, None, Option, nat_lt}
+use Rattle.std.specs.Prelude.{ℕ, suc, ◌+◌, ◌-◌, ◌^◌, ◌<◌, cond, List, ℤ, pos, negsuc, Some, None, Option, nat_lt}
 use Rattle.std.proofs.Common.{arith, of_z, to_z}
 use Rattle.std.specs.Int.Signed.{mag}
 use Rattle.std.specs.Int.{saturate_to_bits, w32}

@@ -14,7 +14,7 @@ pub enum Cut<S> {
 
 impl<S: Scale> Cut<S> {
     pub fn is_before(self, other: Cut<S>) -> bool
-        ensures { result ≡ nat_lt (place rank self) (place rank other) }
+        ensures { result ≡ nat_lt (place S.rank self) (place S.rank other) }
     {
         match (self, other) {
             (_, Cut::LowerEnd) => false,
@@ -31,7 +31,7 @@ impl<S: Scale> Cut<S> {
 
 // Whether a mark lies between two cuts.
 pub fn lies_between<S: Scale>(mark: S, lower: Cut<S>, upper: Cut<S>) -> bool
-    ensures { Decides result (Between rank lower upper mark) }
+    ensures { Decides result (Between S.rank lower upper mark) }
 {
     !Cut::Below(mark).is_before(lower) && !upper.is_before(Cut::Above(mark))
 }

@@ -1,4 +1,6 @@
 // Kinds of mark and the order of their cuts: what recordings hold and what limits are made of.
+#![tactic(auto)]
+
 mod cuts;
 mod faults;
 mod held;

@@ -21,7 +21,7 @@ pub trait Numbered: Copy {
 
 // The number of the first mark behind a cut.
 fn edge_of<S: Numbered>(cut: Cut<S>, row: Row) -> i64
-    ensures { result ≡ edge number row cut }
+    ensures { result ≡ edge S.number row cut }
 {
     match cut {
         Cut::LowerEnd => row.least as i64,
@@ -33,7 +33,7 @@ fn edge_of<S: Numbered>(cut: Cut<S>, row: Row) -> i64
 
 // The first number behind the lower cut, or the last before the upper one if the lower is an end.
 pub fn pick_number<S: Numbered>(lower: Cut<S>, upper: Cut<S>, row: Row) -> Option<i64>
-    ensures { result ≡ picked_number number row lower upper }
+    ensures { result ≡ picked_number S.number row lower upper }
 {
     let first = edge_of(lower, row);
     let past = edge_of(upper, row);

@@ -1,7 +1,7 @@
 -- The derived list covers exactly the limits with which the formula is true. Assumes nothing.
 use Rattle.std.proofs.Common.{◌≡◌, ℕ, zero, suc, ◌+◌, ◌-◌, ◌^◌, ◌<◌, ◌≤◌, Bool, true, false, cond, eqb, List, [], ◌∷◌, ◌++◌, length, get_or, Ok, Err, sym, refl, ap, ◌∙◌, subst, append-nil, arith, eqb-true}
-use borrow.Author.Tests.{eqb_false}
-use lib.Seq.{get_or_append_seam}
+use borrow.Author.Tests.{eqb-false}
+use lib.Seq.{get_or-append_seam}
 use Rattle.std.proofs.lemmas.List.{get_or_append_left, length_push}
 use Rattle.formula.specs.declared.parts.LimitName.{LimitName}
 use Rattle.formula.specs.declared.parts.Part.{Part}
@@ -55,7 +55,7 @@ module _ {S : Type 0} (rank : S → ℕ) (marks : ℕ → ℕ → S) (points : �
       let long = length_push here one.0 in
       let rest = row_made ps longer row (subst (λ m. Within m ps) (sym long) w.1) one.2 in
       let front : Alike k here row = λ i lt. sym (get_or_append_left here (one.0 ∷ []) [] i lt) ∙ rest.front i (omega arith) in
-      let own : at row k ≡ one.0 = sym (rest.front k (omega arith)) ∙ get_or_append_seam here one.0 [] [] in
+      let own : at row k ≡ one.0 = sym (rest.front k (omega arith)) ∙ get_or-append_seam here one.0 [] [] in
       let first : labelled rank row next k step ≡ Ok (at row k) = sym (labelled_alike rank k here row next next k (k + 1) front (alike_same (k + 1) next) step (omega (arith, w.0, step_reach rank marks points point (get_or signs k false) p)) (omega arith) (omega arith)) ∙ one.1 ∙ ap Ok (sym own) in
       record {
         front = front;
@@ -71,7 +71,7 @@ module _ {S : Type 0} (rank : S → ℕ) (fits : (m : S) → rank m < 2 ^ 32) (m
       let here : on_path rank marks points limits point ≡ point = omega arith in
       row_tells rank fits marks points limits parts signs point (eqb (point + 1) points) row next
       (λ last. omega (arith, eqb-true (point + 1) points last))
-      (λ more. ahead (omega (arith, eqb_false (point + 1) points more)))
+      (λ more. ahead (omega (arith, eqb-false (point + 1) points more)))
       (λ k turned p has sign.
       ap (λ x. let s = step_of rank (marks x) turned p in labelled rank row next k (cond (eqb (point + 1) points) (settled s) s)) here
       ∙ ap (λ b. labelled rank row next k (step_for rank marks points point b p)) (sym sign)

@@ -1,7 +1,7 @@
 -- Where the parts of a formula stand in a list of parts, and which signs they have. Assumes nothing.
 use Rattle.std.proofs.Common.{◌≡◌, ℕ, ◌+◌, ◌-◌, ◌<◌, ◌≤◌, Bool, false, ◌⊎◌, List, [], ◌∷◌, ◌++◌, reverse, length, get_or, set, replicate, sym, refl, ap, ◌∙◌, subst, inl, inr, append_assoc, append-nil, arith, length-append, length-set, get_or-set_other, get_or-set_same}
-use lib.ListN.{get_or_replicate, length_replicate, length_reverse}
-use lib.Seq.{get_or_append_seam}
+use lib.ListN.{get_or-replicate, length-replicate, length-reverse}
+use lib.Seq.{get_or-append_seam}
 use Rattle.std.proofs.lemmas.List.{reverse-append}
 use Rattle.formula.specs.declared.parts.Part.{Part}
 use Rattle.formula.specs.declared.parts.Part.TheVariants.{Comparison, Unary, Binary}
@@ -42,7 +42,7 @@ module _ {S : Type 0} where
   has_seam : (parts xs post : List (Part S)) (p : Part S) (k : ℕ) → parts ≡ xs ++ (p ∷ post) → length xs ≡ k → Has parts k p
   has_seam parts xs post p k e l = record {
     within = omega (arith, ap length e, length-append xs (p ∷ post));
-    is = λ d. ap (λ (x : List (Part S)). get_or x k d) e ∙ ap (λ n. get_or (xs ++ (p ∷ post)) n d) (sym l) ∙ get_or_append_seam xs p post d;
+    is = λ d. ap (λ (x : List (Part S)). get_or x k d) e ∙ ap (λ n. get_or (xs ++ (p ∷ post)) n d) (sym l) ∙ get_or-append_seam xs p post d;
   }
 
   pub stands : (t : Tree S) (n : ℕ) (parts pre post : List (Part S)) → parts ≡ pre ++ (numbered n t ++ post) → length pre ≡ n → Stands parts n t
@@ -91,7 +91,7 @@ module _ {S : Type 0} where
   hand_first : (xs rest : List (Part S)) (p : Part S) (k : ℕ) (turned : Bool) (signs : List Bool) → length xs + length rest ≡ k → get_or signs k false ≡ turned → handed_down (reverse (xs ++ (p ∷ [])) ++ rest) signs ≡ handed_down (reverse xs ++ rest) (handed p turned signs)
   hand_first xs rest p k turned signs long sign =
       ap (λ (l : List (Part S)). handed_down l signs) (flat_reverse xs rest p)
-      ∙ ap (λ n. handed_down (reverse xs ++ rest) (handed p (get_or signs n false) signs)) (omega (arith, length-append (reverse xs) rest, length_reverse xs))
+      ∙ ap (λ n. handed_down (reverse xs ++ rest) (handed p (get_or signs n false) signs)) (omega (arith, length-append (reverse xs) rest, length-reverse xs))
       ∙ ap (λ b. handed_down (reverse xs ++ rest) (handed p b signs)) sign
 
   pub hands : (t : Tree S) (n : ℕ) (turned : Bool) (rest : List (Part S)) (signs : List Bool) → length rest ≡ n → n + size t ≤ length signs → get_or signs (root n t) false ≡ turned → Handed t n turned rest signs
@@ -122,7 +122,7 @@ module _ {S : Type 0} where
       let long_both = length-set one_set right turned in
       let whole = root n (two op l r) in
       let r_rest = reverse (numbered n l) ++ rest in
-      let r_few : length r_rest ≡ n + size l = omega (arith, length-append (reverse (numbered n l)) rest, length_reverse (numbered n l), numbered_length n l) in
+      let r_few : length r_rest ≡ n + size l = omega (arith, length-append (reverse (numbered n l)) rest, length-reverse (numbered n l), numbered_length n l) in
       let rs = hands r (n + size l) turned r_rest both_set r_few (omega arith) (get_or-set_same one_set right turned false (omega arith)) in
       let l_sign : get_or rs.after left false ≡ down = rs.below left (omega arith) ∙ get_or-set_other one_set right left turned false (λ e. omega arith) ∙ get_or-set_same signs left down false (omega arith) in
       let ls = hands l n down rest rs.after few (omega (arith, rs.long)) l_sign in
@@ -149,6 +149,6 @@ module _ {S : Type 0} where
   -- the signs of a whole formula
   pub signs_stand : (t : Tree S) (parts : List (Part S)) → parts ≡ numbered 0 t → length parts ≤ 24 → Signed (part_signs parts) 0 false t
   signs_stand t parts e few =
-      let made = hands t 0 false [] (replicate 24 false) refl (omega (arith, ap length e, numbered_length 0 t)) (get_or_replicate 24 (root 0 t) false false (omega (arith, ap length e, numbered_length 0 t, size_some t))) in
+      let made = hands t 0 false [] (replicate 24 false) refl (omega (arith, ap length e, numbered_length 0 t)) (get_or-replicate 24 (root 0 t) false false (omega (arith, ap length e, numbered_length 0 t, size_some t))) in
       let whole : part_signs parts ≡ made.after = ap part_signs e ∙ ap (λ (l : List (Part S)). handed_down l (replicate 24 false)) (sym (append-nil (reverse (numbered 0 t)))) ∙ made.goes in
       subst (λ signs. Signed signs 0 false t) (sym whole) made.signed

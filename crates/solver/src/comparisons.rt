@@ -21,7 +21,7 @@ pub fn bounded_by<S: Scale>(mark: S, comparator: Comparator) -> Interval<S>
 
 // Whether a mark compares so with another.
 pub fn compares<S: Scale>(mark: S, comparator: Comparator, other: S) -> bool
-    ensures { result ≡ meets rank mark comparator other }
+    ensures { result ≡ meets S.rank mark comparator other }
 {
     match comparator {
         Comparator::Less => mark.is_before(other),

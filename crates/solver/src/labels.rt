@@ -15,14 +15,14 @@ fn eventually<S: Scale>(
     next: &Domain<S>,
     work: &mut Domain<S>,
 ) -> Result<(), Full>
-    ensures { reached result (boxes_of work.new) ≡ joined rank (boxes_of here.now) (boxes_of next.now) }
+    ensures { reached result (boxes_of work.new) ≡ joined S.rank (boxes_of here.now) (boxes_of next.now) }
 {
     work.unite(here, next)
 }
 
 // It holds here, and it all holds at the next point.
 fn always<S: Scale>(here: &Domain<S>, next: &Domain<S>, work: &mut Domain<S>) -> Result<(), Full>
-    ensures { reached result (boxes_of work.new) ≡ met rank (boxes_of here.now) (boxes_of next.now) }
+    ensures { reached result (boxes_of work.new) ≡ met S.rank (boxes_of here.now) (boxes_of next.now) }
 {
     work.meet(here, next)
 }
@@ -35,7 +35,7 @@ fn until<S: Scale>(
     work: &mut Domain<S>,
     spare: &mut Domain<S>,
 ) -> Result<(), Full>
-    ensures { Ends result (boxes_of work.new) (and_then (met rank (boxes_of next.now) (boxes_of left.now)) (λ held. joined rank (boxes_of right.now) held)) }
+    ensures { Ends result (boxes_of work.new) (and_then (met S.rank (boxes_of next.now) (boxes_of left.now)) (λ held. joined S.rank (boxes_of right.now) held)) }
 {
     spare.meet(next, left)?;
     work.unite(right, spare)
@@ -49,7 +49,7 @@ fn weak_until<S: Scale>(
     work: &mut Domain<S>,
     spare: &mut Domain<S>,
 ) -> Result<(), Full>
-    ensures { Ends result (boxes_of work.new) (and_then (met rank (boxes_of left.now) (boxes_of right.now)) (λ both. and_then (met rank (boxes_of next.now) (boxes_of left.now)) (λ held. joined rank both held))) }
+    ensures { Ends result (boxes_of work.new) (and_then (met S.rank (boxes_of left.now) (boxes_of right.now)) (λ both. and_then (met S.rank (boxes_of next.now) (boxes_of left.now)) (λ held. joined S.rank both held))) }
 {
     work.meet(left, right)?;
     spare.meet(next, left)?;
@@ -68,7 +68,7 @@ fn label_ahead<S: Scale>(
     requires span { outlook_span outlook ≤ length here.now }
     requires level { length next.now ≡ length here.now }
     requires number { number < length next.now }
-    ensures { Ends result (boxes_of work.new) (foreseen rank (lists_in here.now) (lists_in next.now) number outlook) }
+    ensures { Ends result (boxes_of work.new) (foreseen S.rank (lists_in here.now) (lists_in next.now) number outlook) }
 {
     match outlook {
         Outlook::Next(a) => {
@@ -106,7 +106,7 @@ pub(crate) fn label<S: Scale>(
     requires span { span step ≤ length here.now }
     requires level { length next.now ≡ length here.now }
     requires number { number < length next.now }
-    ensures { Ends result (boxes_of work.new) (labelled rank (lists_in here.now) (lists_in next.now) number step) }
+    ensures { Ends result (boxes_of work.new) (labelled S.rank (lists_in here.now) (lists_in next.now) number step) }
 {
     match step {
         Step::Bound(limit, side) => work.become_box(Orthotope::bounding(limit, side)),

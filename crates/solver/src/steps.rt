@@ -99,7 +99,7 @@ pub fn step_of<R: Recording>(
     part: Part<R::Mark>,
     turned: bool,
 ) -> Step<R::Mark>
-    ensures { result ≡ step_of R.Mark.Scale.rank ((meaning recording.now).mark point) turned part }
+    ensures { result ≡ step_of R.Mark.rank ((R.meaning recording.now).mark point) turned part }
 {
     match (part, turned) {
         (
@@ -275,7 +275,7 @@ pub fn step_at<R: Recording>(
     part: Part<R::Mark>,
     turned: bool,
 ) -> Step<R::Mark>
-    ensures { result ≡ step_for R.Mark.Scale.rank (meaning recording.now).mark (meaning recording.now).points point turned part }
+    ensures { result ≡ step_for R.Mark.rank (R.meaning recording.now).mark (R.meaning recording.now).points point turned part }
 {
     let step = step_of(recording, point, part, turned);
     if point.checked_add(1) == Some(recording.points()) {

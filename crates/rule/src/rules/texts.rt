@@ -47,7 +47,7 @@ impl Rule {
 
     // Reads a text whose constants are marks of the scale `S`. A refused text leaves the rule as it was.
     pub fn read<S: Scale>(&mut self, text: &[u8]) -> Result<(), TextFault>
-        ensures { MatchResult result (λ _. SaysOnly S.Scale.code S.Scale.text text.now (rule_parts self.new) × Faultless S.Scale.text text.now) (λ e. BlamedOnly S.Scale.text text.now e × Unsaid S.Scale.code S.Scale.text text.now × (rule_parts self.new ≡ rule_parts self.old)) }
+        ensures { MatchResult result (λ _. SaysOnly S.code S.text text.now (rule_parts self.new) × Faultless S.text text.now) (λ e. BlamedOnly S.text text.now e × Unsaid S.code S.text text.now × (rule_parts self.new ≡ rule_parts self.old)) }
     {
         if !has_length(text) {
             return Err(TextFault::Length);
@@ -61,7 +61,7 @@ impl Rule {
     fn prepare<S: Scale>(&mut self, text: &[u8]) -> Result<(), TextFault>
         requires { Sized text.now }
         ensures same { self.new.formula ≡ self.old.formula }
-        ensures cases { MatchResult result (λ _. SaysOnly S.Scale.code S.Scale.text text.now (parts_of self.new.fresh) × Faultless S.Scale.text text.now) (λ e. BlamedOnly S.Scale.text text.now e × Unsaid S.Scale.code S.Scale.text text.now) }
+        ensures cases { MatchResult result (λ _. SaysOnly S.code S.text text.now (parts_of self.new.fresh) × Faultless S.text text.now) (λ e. BlamedOnly S.text text.now e × Unsaid S.code S.text text.now) }
     {
         let form = read_text(text, &mut self.draft);
         let coded = self.code::<S>(text);
@@ -72,7 +72,7 @@ impl Rule {
     fn code<S: Scale>(&mut self, text: &[u8]) -> Result<(), ScaleFault>
         requires { AllDrawn text.now (parts_of self.old.draft) }
         ensures same { self.new.formula ≡ self.old.formula }
-        ensures cases { MatchResult result (λ _. AllCoded S.Scale.code S.Scale.text text.now (parts_of self.old.draft) (parts_of self.new.fresh)) (FirstUnread S.Scale.code S.Scale.text text.now (parts_of self.old.draft)) }
+        ensures cases { MatchResult result (λ _. AllCoded S.code S.text text.now (parts_of self.old.draft) (parts_of self.new.fresh)) (FirstUnread S.code S.text text.now (parts_of self.old.draft)) }
     {
         code_parts::<S>(text, &self.draft, &mut self.fresh)
     }

@@ -50,7 +50,7 @@ impl<S: Scale> Solver<S> {
     fn settle(&mut self, step: Step<S>, number: usize) -> bool
         requires span { span step ≤ number }
         requires number { number < 24 }
-        ensures settled { Settles result (row_of self.old.here) number (labelled rank (row_of self.old.here) (row_of self.old.next) number step) (row_of self.new.here) }
+        ensures settled { Settles result (row_of self.old.here) number (labelled S.rank (row_of self.old.here) (row_of self.old.next) number step) (row_of self.new.here) }
         ensures same { self.new.next ≡ self.old.next }
     {
         let end = label(
@@ -78,7 +78,7 @@ impl<S: Scale> Solver<S> {
     ) -> Result<(), usize>
         requires few { length parts.now ≤ 24 }
         requires ordered { Ordered parts.now }
-        ensures settled { RowEnds result (length parts.now) (row_of self.new.here) (row_from S.Scale.rank (R.Recording.meaning recording.now).mark (R.Recording.meaning recording.now).points signs.now point (row_of self.old.next) parts.now []) }
+        ensures settled { RowEnds result (length parts.now) (row_of self.new.here) (row_from S.rank (R.meaning recording.now).mark (R.meaning recording.now).points signs.now point (row_of self.old.next) parts.now []) }
         ensures same { self.new.next ≡ self.old.next }
     {
         for number in 0..parts.len() {
@@ -98,8 +98,8 @@ impl<S: Scale> Solver<S> {
         point: usize,
         answer: &mut Domain<S>,
     ) -> Result<usize, SolveFault>
-        ensures derived { Solves S.Scale.rank (R.Recording.meaning recording.now).mark (R.Recording.meaning recording.now).points (parts_of formula.now) result point (boxes_of answer.old) (boxes_of answer.new) }
-        ensures complete { Completes S.Scale.rank (R.Recording.meaning recording.now).mark (R.Recording.meaning recording.now).points (parts_of formula.now) result point (boxes_of answer.new) }
+        ensures derived { Solves S.rank (R.meaning recording.now).mark (R.meaning recording.now).points (parts_of formula.now) result point (boxes_of answer.old) (boxes_of answer.new) }
+        ensures complete { Completes S.rank (R.meaning recording.now).mark (R.meaning recording.now).points (parts_of formula.now) result point (boxes_of answer.new) }
     {
         if formula.is_blank() {
             return Err(SolveFault::Blank);

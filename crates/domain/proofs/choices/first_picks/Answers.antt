@@ -20,14 +20,14 @@ step g c =
 right : (g : given.Over) (c : After-pick-marks g) → Finds g.S.Scale.rank 3 (sides_in c.args.boxes.now) (first_picked g.S.Scale.picked (sides_in c.args.boxes.now))
 right g c = finds g.S.Scale.rank g.S.Scale.picked g.met.S.Scale.«picks» 3 (sides_in c.args.boxes.now) (wide_boxes c.args.boxes.now)
 
-pub returns-then-is-some : goal.returns-then-is-some
-returns-then-is-some g c =
-    let at = (goal.at.returns-then-is-some g c).After-pick-marks in
-    let same = step g at ∙ some_picks c.pick-marks.result _ (sym c.if-is-some.ensures) in
+pub returns-then-is_some : goal.returns-then-is_some
+returns-then-is_some g c =
+    let at = (goal.at.returns-then-is_some g c).After-pick-marks in
+    let same = step g at ∙ some_picks c.pick-marks.result _ (sym c.if-is_some.ensures) in
     record { value = sym same; found = subst (Finds g.S.Scale.rank 3 (sides_in c.args.boxes.now)) same (right g at) }
 
 pub loop-b-preserved : goal.loop-b-preserved
-loop-b-preserved g c = step g (goal.at.loop-b-preserved g c).After-pick-marks ∙ no_picks c.pick-marks.result _ (sym c.if-is-some.ensures)
+loop-b-preserved g c = step g (goal.at.loop-b-preserved g c).After-pick-marks ∙ no_picks c.pick-marks.result _ (sym c.if-is_some.ensures)
 
 pub returns : goal.returns
 returns g c =

@@ -7,11 +7,11 @@ returns-then-end-out c =
     let out = c.args.out.now in
     let bytes = c.args.bytes.now in
     let at = c.args.at in
-    let k = c.saturating-add-end.result - at in
+    let k = c.saturating_add-end.result - at in
     record {
       end = search rules;
       written = λ fits.
-          let same : at + k ≡ at + length bytes = omega (arith, c.saturating-add-end.ensures) in
-          ap (λ l. take at out ++ (l ++ drop k (drop at out))) c.copy-from-slice.ensures.after ∙ ap (λ l. take at out ++ (bytes ++ l)) (drop-drop k at out ∙ ap (λ n. drop n out) same);
-      refused = λ little. absurd (omega (arith, c.saturating-add-end.ensures));
+          let same : at + k ≡ at + length bytes = omega (arith, c.saturating_add-end.ensures) in
+          ap (λ l. take at out ++ (l ++ drop k (drop at out))) c.copy_from_slice.ensures.after ∙ ap (λ l. take at out ++ (bytes ++ l)) (drop-drop k at out ∙ ap (λ n. drop n out) same);
+      refused = λ little. absurd (omega (arith, c.saturating_add-end.ensures));
     }

@@ -14,15 +14,15 @@ use Rattle.reader.specs.Codings.{FirstUnread}
 use Rattle.rule.proofs.Coded.{coded_more, first_unread}
 use Rattle.rule.proofs.codings.code_parts.Goals as goal
 
-pub returns-in-err-coded : goal.returns-in-err-coded
-returns-in-err-coded g c =
-    let p = err_from_is_err_and c.from-residual.result c.from-residual.ensures.1 in
+pub returns-in_err-coded : goal.returns-in_err-coded
+returns-in_err-coded g c =
+    let p = err_from_is_err_and c.from_residual.result c.from_residual.ensures.1 in
     let within : c.loop-part.part-index < length c.parts-parts.result.now = search rules in
     let parts = c.parts-parts.result.now in
     let i = c.loop-part.part-index in
     let some : Part Run = Comparison 0 Less (Limit P) in
-    let first = first_unread g.S.Scale.code g.S.Scale.text c.args.text.now parts _ i (get_or parts i some) _ within (λ d. get_or_default parts i d some within) c.in-err-coded.ensures c.loop-part.invariant.1 in
-    rw (p.1, p.2) (subst (λ (x : List (Part Run)). FirstUnread g.S.Scale.code g.S.Scale.text c.args.text.now x c.in-err-coded.field-0.0) c.parts-parts.ensures.value first)
+    let first = first_unread g.S.Scale.code g.S.Scale.text c.args.text.now parts _ i (get_or parts i some) _ within (λ d. get_or_default parts i d some within) c.in_err-coded.ensures c.loop-part.invariant.1 in
+    rw (p.1, p.2) (subst (λ (x : List (Part Run)). FirstUnread g.S.Scale.code g.S.Scale.text c.args.text.now x c.in_err-coded.field-0.0) c.parts-parts.ensures.value first)
 
 pub loop-part-preserved : goal.loop-part-preserved
 loop-part-preserved g c =
@@ -30,6 +30,6 @@ loop-part-preserved g c =
     let i = c.loop-part.part-index in
     let within : i < length parts = search rules in
     let some : Part Run = Comparison 0 Less (Limit P) in
-    let coded = c.in-ok-coded.coded in
-    let fits : Fits coded (parts_of c.loop-part.fresh) = record { room = omega (arith, c.loop-part.invariant.0, c.parts-parts.ensures.few, within); after = omega (arith, c.loop-part.invariant.0, c.in-ok-coded.ensures.1, c.parts-parts.ensures.ordered i some within) } in
-    coded_more g.S.Scale.code g.S.Scale.text c.args.text.now c.parts-parts.result.now _ _ c.loop-part.part-index _ _ c.loop-part.invariant.0 (λ d. get_or_default _ _ d _ within) (pushed c.push.result _ _ _ fits c.push.ensures) c.in-ok-coded.ensures.0 c.loop-part.invariant.1
+    let coded = c.in_ok-coded.coded in
+    let fits : Fits coded (parts_of c.loop-part.fresh) = record { room = omega (arith, c.loop-part.invariant.0, c.parts-parts.ensures.few, within); after = omega (arith, c.loop-part.invariant.0, c.in_ok-coded.ensures.1, c.parts-parts.ensures.ordered i some within) } in
+    coded_more g.S.Scale.code g.S.Scale.text c.args.text.now c.parts-parts.result.now _ _ c.loop-part.part-index _ _ c.loop-part.invariant.0 (λ d. get_or_default _ _ d _ within) (pushed c.push.result _ _ _ fits c.push.ensures) c.in_ok-coded.ensures.0 c.loop-part.invariant.1

@@ -13,11 +13,11 @@ back : (c : After-parse) (m : Reading) → reading_text m ≡ c.args.run.now →
 back c m e =
     parse-signed_decimal w32 m.value c.in-Ok.digits.now _ (record { sfits = m.fits }) (omega (arith, m.fits)) (c.in-Ok.ensures.cases.0 ∙ sym e) c.parse.ensures.value.0
 
-pub returns-in-default : goal.returns-in-default
-returns-in-default c = λ m e. absurd (c.in-default.ensures.cases.0 (subst IsUtf8 e (IsUtf8-from_ascii (reading_text m) (IsAscii-signed m.value (omega (arith, m.fits))))))
+pub returns-in_default : goal.returns-in_default
+returns-in_default c = λ m e. absurd (c.in_default.ensures.cases.0 (subst IsUtf8 e (IsUtf8-from_ascii (reading_text m) (IsAscii-signed m.value (omega (arith, m.fits))))))
 
-pub returns-in-default-parse : goal.returns-in-default-parse
-returns-in-default-parse c = λ m e. absurd (c.in-default-parse.not-Ok m.value (back (goal.at.returns-in-default-parse c).After-parse m e))
+pub returns-in_default-parse : goal.returns-in_default-parse
+returns-in_default-parse c = λ m e. absurd (c.in_default-parse.not-Ok m.value (back (goal.at.returns-in_default-parse c).After-parse m e))
 
 pub returns : goal.returns
 returns c = λ m e.

@@ -1,4 +1,4 @@
-use Rattle.std.proofs.Common.{sym, ◌∙◌, w32, rules}
+use Rattle.std.proofs.Common.{sym, ◌∙◌, w32}
 use Rattle.std.proofs.lemmas.Int.{to_z-of_z}
 use Rattle.scale.specs.ReadingLaws.{held_same}
 use Rattle.scale.proofs.readings.reading_of.Goals as goal

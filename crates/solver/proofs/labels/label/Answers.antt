@@ -10,7 +10,7 @@ pub returns-in-Same : goal.returns-in-Same
 returns-in-Same g c =
     let wide = ap span c.in-Same.is in
     ap (labelled g.S.Scale.rank (lists_in c.args.here.now) (lists_in c.args.next.now) c.args.number) c.in-Same.is
-    ∙ ap Ok (sym (c.copy-from.ensures ∙ list_at c.args.here.now c.in-Same.a _ (omega (arith, wide, c.requires.span)) c.index-here-a.is))
+    ∙ ap Ok (sym (c.copy_from.ensures ∙ list_at c.args.here.now c.in-Same.a _ (omega (arith, wide, c.requires.span)) c.index-here-a.is))
 
 pub returns-in-Join : goal.returns-in-Join
 returns-in-Join g c =

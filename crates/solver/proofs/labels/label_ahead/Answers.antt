@@ -10,7 +10,7 @@ pub returns-in-Next : goal.returns-in-Next
 returns-in-Next g c =
     let wide = ap outlook_span c.in-Next.is in
     ap (foreseen g.S.Scale.rank (lists_in c.args.here.now) (lists_in c.args.next.now) c.args.number) c.in-Next.is
-    ∙ ap Ok (sym (c.copy-from.ensures ∙ list_at c.args.next.now c.in-Next.a _ (omega (arith, wide, c.requires.span, c.requires.level)) c.index-next-a.is))
+    ∙ ap Ok (sym (c.copy_from.ensures ∙ list_at c.args.next.now c.in-Next.a _ (omega (arith, wide, c.requires.span, c.requires.level)) c.index-next-a.is))
 
 pub returns-in-Eventually : goal.returns-in-Eventually
 returns-in-Eventually g c =
@@ -44,4 +44,4 @@ returns-in-WeakUntil g c =
     let left = list_at c.args.here.now c.in-WeakUntil.left _ (omega (arith, wide, c.requires.span)) c.index-here-left-in-WeakUntil.is in
     let right = list_at c.args.here.now c.in-WeakUntil.right _ (omega (arith, wide, c.requires.span)) c.index-here-right-in-WeakUntil.is in
     let then = list_at c.args.next.now c.args.number _ c.requires.number c.index-next-number-in-WeakUntil.is in
-    subst (Ends c.weak-until.result (boxes_of c.weak-until.new.work)) ((λ i. and_then (met rank (left i) (right i)) (λ both. and_then (met rank (then i) (left i)) (λ held. joined rank both held))) ∙ ap (foreseen rank (lists_in c.args.here.now) (lists_in c.args.next.now) c.args.number) (sym c.in-WeakUntil.is)) c.weak-until.ensures
+    subst (Ends c.weak_until.result (boxes_of c.weak_until.new.work)) ((λ i. and_then (met rank (left i) (right i)) (λ both. and_then (met rank (then i) (left i)) (λ held. joined rank both held))) ∙ ap (foreseen rank (lists_in c.args.here.now) (lists_in c.args.next.now) c.args.number) (sym c.in-WeakUntil.is)) c.weak_until.ensures

@@ -11,6 +11,6 @@ loop-k-preserved g c =
     let parts = c.args.parts.now in
     let at = c.loop-k.k - 1 in
     let back : c.loop-k.k ≡ at + 1 = omega (arith, c.loop-k-test.true) in (
-      omega (arith, c.pass-down.auto.signs, c.loop-k.invariant.0),
-      hand_on parts _ c.loop-k.signs _ at c.index-parts-k.result _ (omega (arith, c.loop-k-test.true, c.loop-k.auto.k)) c.index-parts-k.is refl (c.loop-k.invariant.1 ∙ ap (λ n. handed_down (reverse (take n parts)) c.loop-k.signs) back) c.pass-down.ensures,
+      omega (arith, c.pass_down.auto.signs, c.loop-k.invariant.0),
+      hand_on parts _ c.loop-k.signs _ at c.index-parts-k.result _ (omega (arith, c.loop-k-test.true, c.loop-k.auto.k)) c.index-parts-k.is refl (c.loop-k.invariant.1 ∙ ap (λ n. handed_down (reverse (take n parts)) c.loop-k.signs) back) c.pass_down.ensures,
     )

@@ -4,5 +4,5 @@ use Rattle.bench.proofs.benches.Bench.find.Goals as goal
 pub returns : goal.returns
 returns g c = record {
   list = c.first-picks.ensures;
-  law = find_law g.Mark.Scale.rank g.met.Mark.Scale.ranks_fit g.R.Recording.meaning g.Mark.Scale.code g.Mark.Scale.picked g.met.Mark.Scale.«picks» c.args.self.now c.first-picks.result c.first-picks.ensures;
+  law = find_law g.R.Mark.Scale.rank g.met.R.Mark.Scale.ranks_fit g.R.Recording.meaning g.R.Mark.Scale.code g.R.Mark.Scale.picked g.met.R.Mark.Scale.«picks» c.args.self.now c.first-picks.result c.first-picks.ensures;
 }

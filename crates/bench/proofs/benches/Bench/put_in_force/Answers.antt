@@ -7,4 +7,4 @@ use Rattle.bench.proofs.benches.Bench.put_in_force.Goals as goal
 pub invariant-of-self-2 : goal.invariant-of-self-2
 invariant-of-self-2 g c =
     let whole : wholly c.parts.result.now ≡ true = ap wholly (c.parts.ensures.value ∙ c.formula.ensures) ∙ c.args.rule.whole in
-    (ap (λ x. wholly (parts_of x)) c.swap.ensures.x-after ∙ fitted_whole g.Mark.Scale.named c.channels.result c.parts.result.now (parts_of c.fit-parts.new.fresh) c.in-default.ensures whole, tt)
+    (ap (λ x. wholly (parts_of x)) c.swap.ensures.x-after ∙ fitted_whole g.R.Mark.Scale.named c.channels.result c.parts.result.now (parts_of c.fit-parts.new.fresh) c.in-default.ensures whole, tt)

@@ -8,5 +8,5 @@ returns g c =
       list = done.list;
       recording = done.recording;
       rule = done.rule;
-      law = solve_law g.Mark.Scale.rank g.R.Recording.meaning c.args.self.now c.work-out.new.self c.args.point c.work-out.result done.list done.recording done.rule;
+      law = solve_law g.R.Mark.Scale.rank g.R.Recording.meaning c.args.self.now c.work-out.new.self c.args.point c.work-out.result done.list done.recording done.rule;
     }

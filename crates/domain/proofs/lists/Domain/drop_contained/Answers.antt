@@ -11,11 +11,11 @@ use Rattle.domain.proofs.lists.Domain.drop_contained.Goals.{then-not-contains, e
 pub loop-i-init : goal.loop-i-init
 loop-i-init g c = (omega arith, refl, refl)
 
-pub index-mut-requires : goal.index-mut-requires
-index-mut-requires g c = omega (arith, c.loop-i.invariant.0, c.loop-i.invariant.1, c.len-i-end.ensures, c.loop-i-test.true)
+pub index_mut-requires : goal.index_mut-requires
+index_mut-requires g c = omega (arith, c.loop-i.invariant.0, c.loop-i.invariant.1, c.len-i-end.ensures, c.loop-i-test.true)
 
-pub overflow-add-count : goal.overflow-add-count
-overflow-add-count g c = search (rules, c.loop-i.invariant.0)
+pub overflow_add-count : goal.overflow_add-count
+overflow_add-count g c = search (rules, c.loop-i.invariant.0)
 
 pub loop-i-preserved : goal.loop-i-preserved
 loop-i-preserved g c =

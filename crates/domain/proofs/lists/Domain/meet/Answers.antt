@@ -33,7 +33,7 @@ loop-b-init g c = (
 
 pub loop-b-preserved : goal.loop-b-preserved
 loop-b-preserved g c =
-    let fine = no_error c.add-end.result (sym c.if-is-err.ensures.value) in
+    let fine = no_error c.add-end.result (sym c.if-is_err.ensures.value) in
     (fine, join_goes g.S.Scale.rank _ (boxes_of c.loop-b.self) _ _ _ _ _ _ c.loop-b.invariant.1 (first g (goal.at.loop-b-preserved g c).After-add-end) c.add-end.ensures fine)
 
 pub pairs-preserved : goal.pairs-preserved
@@ -48,8 +48,8 @@ returns-after-pairs g c =
     ap (λ r. reached r (boxes_of c.pairs.self)) c.pairs.invariant.0
     ∙ join_ends g.S.Scale.rank _ (boxes_of c.pairs.self) _ c.pairs.invariant.1 (ap (λ l. overlaps g.S.Scale.rank l (boxes_of c.args.right.now)) (boxes_end _ _ c.deref-a-items.ensures.value c.pairs.a-index c.pairs-test.false))
 
-pub returns-then-is-err : goal.returns-then-is-err
-returns-then-is-err g c =
-    let err = an_error c.add-end.result (sym c.if-is-err.ensures.value) in
+pub returns-then-is_err : goal.returns-then-is_err
+returns-then-is_err g c =
+    let err = an_error c.add-end.result (sym c.if-is_err.ensures.value) in
     ap (λ r. reached r (boxes_of c.add-end.new.self)) err.1
-    ∙ join_stops g.S.Scale.rank _ (boxes_of c.loop-b.self) _ _ _ _ _ _ c.loop-b.invariant.1 (first g (goal.at.returns-then-is-err g c).After-add-end) c.add-end.ensures err.1
+    ∙ join_stops g.S.Scale.rank _ (boxes_of c.loop-b.self) _ _ _ _ _ _ c.loop-b.invariant.1 (first g (goal.at.returns-then-is_err g c).After-add-end) c.add-end.ensures err.1

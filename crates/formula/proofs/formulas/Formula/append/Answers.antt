@@ -4,9 +4,13 @@ use Rattle.formula.proofs.Extends.{ordered_more}
 use Rattle.formula.proofs.formulas.Formula.append.Goals as goal
 
 -- the parts with one more at their end are ordered
-pub invariant-of-self : goal.invariant-of-self
-invariant-of-self g c =
+pub invariant_of-self : goal.invariant_of-self
+invariant_of-self g c =
     let old = vec_items c.args.self.now.parts in
     let after : reach c.args.part ≤ length old = search rules in
     let more = ordered_more old c.args.part c.args.self.now.ordered after in
-    (search rules, (search rules, (subst Ordered (sym c.push-reserved.ensures.items) more, tt)))
+    record {
+      few = search rules;
+      room = search rules;
+      ordered = subst Ordered (sym c.push_reserved.ensures.items) more;
+    }

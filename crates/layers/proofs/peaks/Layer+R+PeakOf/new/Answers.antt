@@ -7,8 +7,8 @@ use Rattle.layers.proofs.peaks.Layer+R+PeakOf.new.Goals as goal
 
 pub returns : goal.returns
 returns g c =
-    let rank = g.Mark.Scale.rank in
-    let rest = g.Mark.Scale.resting in
+    let rank = g.R.Mark.Scale.rank in
+    let rest = g.R.Mark.Scale.resting in
     let meaning = g.R.Recording.meaning in
     let m = meaning c.args.below in
     let made = c.over.ensures in

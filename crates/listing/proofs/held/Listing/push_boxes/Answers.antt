@@ -13,7 +13,7 @@ loop-b-preserved g c =
     let i = c.loop-b.b-index in
     c.loop-b.invariant
     ∙ ap (λ (l : Boxes g.row.S.Denot). lined text (state_of c.loop-b.self) l) (boxes_at boxes boxes refl i c.b-item.result c.loop-b-test.true c.b-item.is)
-    ∙ ap (λ (s : State). lined text s (drop (i + 1) (sides_in boxes))) (sym c.push-box.ensures)
+    ∙ ap (λ (s : State). lined text s (drop (i + 1) (sides_in boxes))) (sym c.push_box.ensures)
 
 pub returns : goal.returns
 returns g c =

@@ -2,11 +2,11 @@ use Rattle.std.proofs.Common.{◌≡◌, ℕ, ◌-◌, ◌<◌, List, ◌++◌, 
 use Rattle.scale.specs.Marks.{RunByte}
 use Rattle.reader.proofs.Stretches.{stretch}
 use Rattle.reader.proofs.readers.Cursor.run.Goals as goal
-use Rattle.reader.proofs.readers.Cursor.run.Goals.{then_loop_self_test+else_is_run_byte, else-loop-self-test}
+use Rattle.reader.proofs.readers.Cursor.run.Goals.{then-loop-self-test+else-is_run_byte, else-loop-self-test}
 
 -- the loop stopped at the text's end or at a byte that is in no run
 ends : (c : goal.Else-self-start) → c.loop-self.self.at < length c.args.self.now.text.now → RunByte (get_or c.args.self.now.text.now c.loop-self.self.at 0) → ⊥
-ends c = elim c.loop-self-test.branch [ then_loop_self_test+else_is_run_byte w ↦ search rules | else-loop-self-test w ↦ search rules ]
+ends c = elim c.loop-self-test.branch [ then-loop-self-test+else-is_run_byte w ↦ search rules | else-loop-self-test w ↦ search rules ]
 
 pub returns : goal.returns
 returns c =

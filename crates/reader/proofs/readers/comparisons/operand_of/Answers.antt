@@ -2,14 +2,14 @@ use Rattle.std.proofs.Common.{get_or, ◌∙◌, rules}
 use Rattle.reader.proofs.Names.{one_byte, two_bytes, three_bytes, low_name, high_name}
 use Rattle.reader.proofs.readers.comparisons.operand_of.Goals as goal
 
-pub returns-in-112 : goal.returns-in-112
-returns-in-112 c = one_byte c.args.bytes.now 112 (search rules) (search rules)
+pub returns-in-p : goal.returns-in-p
+returns-in-p c = one_byte c.args.bytes.now 112 (search rules) (search rules)
 
-pub returns-in-113 : goal.returns-in-113
-returns-in-113 c = one_byte c.args.bytes.now 113 (search rules) (search rules)
+pub returns-in-q : goal.returns-in-q
+returns-in-q c = one_byte c.args.bytes.now 113 (search rules) (search rules)
 
-pub returns-in-114 : goal.returns-in-114
-returns-in-114 c = one_byte c.args.bytes.now 114 (search rules) (search rules)
+pub returns-in-r : goal.returns-in-r
+returns-in-r c = one_byte c.args.bytes.now 114 (search rules) (search rules)
 
 pub returns-in-99 : goal.returns-in-99
 returns-in-99 c =

@@ -15,73 +15,73 @@ use Rattle.reader.proofs.readers.wholes.+formula.Goals as goal
 -- the operator was met and has not been added yet, so there is room for it
 pub append-requires : goal.append-requires
 append-requires t c =
-    let q = c.in-ok-operand.ensures.read in
+    let q = c.in_ok-operand.ensures.read in
     record {
       room =
           omega (
             arith,
             grown q,
             q.spelled.counts,
-            c.in-ok-meet.ensures.counts,
+            c.in_ok-meet.ensures.counts,
             c.pass.ensures.counts,
-            c.in-ok-open.ensures.0.counts,
+            c.in_ok-open.ensures.0.counts,
             c.formula.new.cursor.counted,
             c.requires,
           );
       after = omega (arith, topped q);
     }
 
-pub returns-in-Some-unary-operator : goal.returns-in-Some-unary-operator
-returns-in-Some-unary-operator t c =
-    let met = c.in-ok-meet.ensures in
-    let enter = c.in-ok-open.ensures in
-    let operand = c.in-ok-operand.ensures in
+pub returns-in-Some-unary_operator : goal.returns-in-Some-unary_operator
+returns-in-Some-unary_operator t c =
+    let met = c.in_ok-meet.ensures in
+    let enter = c.in_ok-open.ensures in
+    let operand = c.in_ok-operand.ensures in
     let text : c.open.new.self.text.now ≡ c.args.cursor.now.text.now =
     enter.0.same ∙ (c.pass.ensures.same ∙ ap (λ (x : Bor (List ℕ)). x.now) met.same) in
     let a = c.args.cursor.now in
     let b = c.pass.new.self in
-    let op = c.in-Some-unary-operator.operator in
-    let word = subst (λ (x : List ℕ). Passes a b x 1) (sym c.in-Some-unary-operator.ensures) (meeting met c.pass.ensures) in
+    let op = c.in-Some-unary_operator.operator in
+    let word = subst (λ (x : List ℕ). Passes a b x 1) (sym c.in-Some-unary_operator.ensures) (meeting met c.pass.ensures) in
     record {
       drawn = λ all. drawn_more _ _ _ _ c.append.ensures.items tt (drawn_in _ _ _ _ text operand.drawn all);
       halts = tt;
       told = λ behind.
           tells_part _ refl c.append.ensures.items
-          (past_close a.text.now (operand.read.spelled.same ∙ text) c.in-ok-expect.ensures.1 (through_operand op word enter.0 operand.told));
+          (past_close a.text.now (operand.read.spelled.same ∙ text) c.in_ok-expect.ensures.1 (through_operand op word enter.0 operand.told));
       read =
-          unary_read _ _ _ _ _ _ _ _ _ _ _ _ _ _ met c.pass.ensures c.in-Some-unary-operator.ensures enter.0 enter.1 operand.read c.in-ok-expect.ensures.1 c.append.ensures.items c.append.ensures.value;
+          unary_read _ _ _ _ _ _ _ _ _ _ _ _ _ _ met c.pass.ensures c.in-Some-unary_operator.ensures enter.0 enter.1 operand.read c.in_ok-expect.ensures.1 c.append.ensures.items c.append.ensures.value;
     }
 
 pub formula-requires-3 : goal.formula-requires-3
 formula-requires-3 t c =
-    let q = c.in-ok-left-operand.ensures.read in (
-      omega (arith, c.decreases, c.in-ok-open-3.ensures.1),
+    let q = c.in_ok-left_operand.ensures.read in (
+      omega (arith, c.decreases, c.in_ok-open-3.ensures.1),
       omega (
         arith,
         grown q,
         q.spelled.counts,
-        c.in-ok-open-2.ensures.0.counts,
-        c.in-ok-expect-2.ensures.1.counts,
-        c.in-ok-operator.ensures.counts,
-        c.in-ok-open-3.ensures.0.counts,
+        c.in_ok-open-2.ensures.0.counts,
+        c.in_ok-expect-2.ensures.1.counts,
+        c.in_ok-operator.ensures.counts,
+        c.in_ok-open-3.ensures.0.counts,
         c.requires,
       ),
     )
 
-pub append-binary-requires : goal.append-binary-requires
-append-binary-requires t c =
-    let q = c.in-ok-left-operand.ensures.read in
-    let q' = c.in-ok-right-operand.ensures.read in
+pub append_binary-requires : goal.append_binary-requires
+append_binary-requires t c =
+    let q = c.in_ok-left_operand.ensures.read in
+    let q' = c.in_ok-right_operand.ensures.read in
     record {
       room =
           omega (
             arith,
             grown q,
             q.spelled.counts,
-            c.in-ok-open-2.ensures.0.counts,
-            c.in-ok-expect-2.ensures.1.counts,
-            c.in-ok-operator.ensures.counts,
-            c.in-ok-open-3.ensures.0.counts,
+            c.in_ok-open-2.ensures.0.counts,
+            c.in_ok-expect-2.ensures.1.counts,
+            c.in_ok-operator.ensures.counts,
+            c.in_ok-open-3.ensures.0.counts,
             grown q',
             q'.spelled.counts,
             c.formula-3.new.cursor.counted,
@@ -92,12 +92,12 @@ append-binary-requires t c =
 
 pub returns : goal.returns
 returns t c =
-    let enter = c.in-ok-open-2.ensures in
-    let left = c.in-ok-left-operand.ensures in
-    let close = c.in-ok-expect-2.ensures.1 in
-    let operator = c.in-ok-operator.ensures in
-    let again = c.in-ok-open-3.ensures.0 in
-    let right = c.in-ok-right-operand.ensures in
+    let enter = c.in_ok-open-2.ensures in
+    let left = c.in_ok-left_operand.ensures in
+    let close = c.in_ok-expect-2.ensures.1 in
+    let operator = c.in_ok-operator.ensures in
+    let again = c.in_ok-open-3.ensures.0 in
+    let right = c.in_ok-right_operand.ensures in
     let text : c.open-3.new.self.text.now ≡ c.args.cursor.now.text.now =
     again.same ∙ (operator.same ∙ (close.same ∙ (left.read.spelled.same ∙ enter.0.same))) in
     let here = c.args.cursor.now.text.now in
@@ -105,26 +105,26 @@ returns t c =
     record {
       drawn =
           λ all.
-          drawn_more _ _ _ _ c.append-binary.ensures.items tt
+          drawn_more _ _ _ _ c.append_binary.ensures.items tt
           (drawn_in _ _ _ _ text right.drawn (drawn_in _ _ _ _ enter.0.same left.drawn all));
       halts = tt;
       told = λ behind.
-          tells_part _ refl c.append-binary.ensures.items
-          (past_close here (right.read.spelled.same ∙ text) c.in-ok-expect-3.ensures.1
+          tells_part _ refl c.append_binary.ensures.items
+          (past_close here (right.read.spelled.same ∙ text) c.in_ok-expect-3.ensures.1
           (through_right here (operator.same ∙ there) again
-          (past_operator here c.in-ok-operator.operator there operator (past_close here (left.read.spelled.same ∙ enter.0.same) close (through_left enter.0 left.told)))
+          (past_operator here c.in_ok-operator.operator there operator (past_close here (left.read.spelled.same ∙ enter.0.same) close (through_left enter.0 left.told)))
           right.told));
       read =
-          binary_read _ _ _ _ _ _ _ _ _ _ _ _ _ _ _ _ _ enter.0 enter.1 left.read close operator again right.read c.in-ok-expect-3.ensures.1 c.append-binary.ensures.items c.append-binary.ensures.value;
+          binary_read _ _ _ _ _ _ _ _ _ _ _ _ _ _ _ _ _ enter.0 enter.1 left.read close operator again right.read c.in_ok-expect-3.ensures.1 c.append_binary.ensures.items c.append_binary.ensures.value;
     }
 
 -- no formula begins where the reading stopped
-pub returns-in-default : goal.returns-in-default
-returns-in-default t c =
+pub returns-in_default : goal.returns-in_default
+returns-in_default t c =
     record {
       drawn = search rules;
       halts =
-          halts_end c.args.cursor.now c.args.left _ c.in-default.ensures (search rules);
+          halts_end c.args.cursor.now c.args.left _ c.in_default.ensures (search rules);
       told = λ behind. at_start c.args.cursor.now _ c.misfit.result (ap halt c.misfit.ensures);
       read = search rules;
     }
@@ -139,218 +139,218 @@ returns-then-byte-eq99 t c =
       read = search rules;
     }
 
-pub returns-in-err-open : goal.returns-in-err-open
-returns-in-err-open t c =
+pub returns-in_err-open : goal.returns-in_err-open
+returns-in_err-open t c =
     let a = c.args.cursor.now in
     let b = c.pass.new.self in
-    let op = c.in-Some-unary-operator.operator in
-    let met = c.in-ok-meet.ensures in
-    let p = err_from_is_err_and c.from-residual-in-err-open.result c.from-residual-in-err-open.ensures.1 in
-    let word = subst (λ (x : List ℕ). Passes a b x 1) (sym c.in-Some-unary-operator.ensures) (meeting met c.pass.ensures) in
+    let op = c.in-Some-unary_operator.operator in
+    let met = c.in_ok-meet.ensures in
+    let p = err_from_is_err_and c.from_residual-in_err-open.result c.from_residual-in_err-open.ensures.1 in
+    let word = subst (λ (x : List ℕ). Passes a b x 1) (sym c.in-Some-unary_operator.ensures) (meeting met c.pass.ensures) in
     record {
       drawn = search rules;
       halts =
-          refused_as c.from-residual-in-err-open.result c.in-err-open.field-0.0 p.0 _ p.1 p.2
-          (halts_unary_open a b c.args.left op _ word c.in-err-open.ensures);
-      told = told_refused c.from-residual-in-err-open.result c.in-err-open.field-0.0 p.0 a _ _ _ p.1 p.2 (λ behind. tells_to (sym (open_place b c.args.left _ c.in-err-open.ensures)) (tells_unary a.text.now _ op refl word));
+          refused_as c.from_residual-in_err-open.result c.in_err-open.field-0.0 p.0 _ p.1 p.2
+          (halts_unary_open a b c.args.left op _ word c.in_err-open.ensures);
+      told = told_refused c.from_residual-in_err-open.result c.in_err-open.field-0.0 p.0 a _ _ _ p.1 p.2 (λ behind. tells_to (sym (open_place b c.args.left _ c.in_err-open.ensures)) (tells_unary a.text.now _ op refl word));
       read = search rules;
     }
 
-pub returns-in-err-operand : goal.returns-in-err-operand
-returns-in-err-operand t c =
+pub returns-in_err-operand : goal.returns-in_err-operand
+returns-in_err-operand t c =
     let a = c.args.cursor.now in
     let b = c.pass.new.self in
-    let op = c.in-Some-unary-operator.operator in
-    let met = c.in-ok-meet.ensures in
-    let enter = c.in-ok-open.ensures.0 in
+    let op = c.in-Some-unary_operator.operator in
+    let met = c.in_ok-meet.ensures in
+    let enter = c.in_ok-open.ensures.0 in
     let o = c.open.new.self in
-    let p = err_from_is_err_and c.from-residual-in-err-operand.result c.from-residual-in-err-operand.ensures.1 in
-    let word = subst (λ (x : List ℕ). Passes a b x 1) (sym c.in-Some-unary-operator.ensures) (meeting met c.pass.ensures) in
+    let p = err_from_is_err_and c.from_residual-in_err-operand.result c.from_residual-in_err-operand.ensures.1 in
+    let word = subst (λ (x : List ℕ). Passes a b x 1) (sym c.in-Some-unary_operator.ensures) (meeting met c.pass.ensures) in
     record {
       drawn = search rules;
       halts =
-          refused_as c.from-residual-in-err-operand.result c.in-err-operand.field-0.0 p.0 _ p.1 p.2
-          (halts_unary_inside a b o c.args.left op _ word enter c.in-ok-open.ensures.1 c.in-err-operand.ensures.halts);
-      told = told_refused c.from-residual-in-err-operand.result c.in-err-operand.field-0.0 p.0 a _ _ _ p.1 p.2 (λ behind. through_operand op word enter c.in-err-operand.ensures.told);
+          refused_as c.from_residual-in_err-operand.result c.in_err-operand.field-0.0 p.0 _ p.1 p.2
+          (halts_unary_inside a b o c.args.left op _ word enter c.in_ok-open.ensures.1 c.in_err-operand.ensures.halts);
+      told = told_refused c.from_residual-in_err-operand.result c.in_err-operand.field-0.0 p.0 a _ _ _ p.1 p.2 (λ behind. through_operand op word enter c.in_err-operand.ensures.told);
       read = search rules;
     }
 
-pub returns-in-err-expect : goal.returns-in-err-expect
-returns-in-err-expect t c =
+pub returns-in_err-expect : goal.returns-in_err-expect
+returns-in_err-expect t c =
     let a = c.args.cursor.now in
     let b = c.pass.new.self in
-    let op = c.in-Some-unary-operator.operator in
-    let met = c.in-ok-meet.ensures in
-    let enter = c.in-ok-open.ensures.0 in
-    let p = err_from_is_err_and c.from-residual-in-err-expect.result c.from-residual-in-err-expect.ensures.1 in
-    let word = subst (λ (x : List ℕ). Passes a b x 1) (sym c.in-Some-unary-operator.ensures) (meeting met c.pass.ensures) in
-    let none = c.in-err-expect.ensures in
+    let op = c.in-Some-unary_operator.operator in
+    let met = c.in_ok-meet.ensures in
+    let enter = c.in_ok-open.ensures.0 in
+    let p = err_from_is_err_and c.from_residual-in_err-expect.result c.from_residual-in_err-expect.ensures.1 in
+    let word = subst (λ (x : List ℕ). Passes a b x 1) (sym c.in-Some-unary_operator.ensures) (meeting met c.pass.ensures) in
+    let none = c.in_err-expect.ensures in
     record {
       drawn = search rules;
       halts =
-          refused_as c.from-residual-in-err-expect.result c.in-err-expect.field-0.0 p.0 _ p.1 p.2
-          (halts_unary_close a b c.open.new.self c.formula.new.cursor c.args.left op _ word enter c.in-ok-open.ensures.1 (took c.in-ok-operand.ensures.read) none.0 none.1);
-      told = told_refused c.from-residual-in-err-expect.result c.in-err-expect.field-0.0 p.0 a _ _ _ p.1 p.2 (λ behind. tells_to (sym (ap halt none.0)) (through_operand op word enter c.in-ok-operand.ensures.told));
+          refused_as c.from_residual-in_err-expect.result c.in_err-expect.field-0.0 p.0 _ p.1 p.2
+          (halts_unary_close a b c.open.new.self c.formula.new.cursor c.args.left op _ word enter c.in_ok-open.ensures.1 (took c.in_ok-operand.ensures.read) none.0 none.1);
+      told = told_refused c.from_residual-in_err-expect.result c.in_err-expect.field-0.0 p.0 a _ _ _ p.1 p.2 (λ behind. tells_to (sym (ap halt none.0)) (through_operand op word enter c.in_ok-operand.ensures.told));
       read = search rules;
     }
 
-pub returns-in-err-open-2 : goal.returns-in-err-open-2
-returns-in-err-open-2 t c =
+pub returns-in_err-open-2 : goal.returns-in_err-open-2
+returns-in_err-open-2 t c =
     let a = c.args.cursor.now in
-    let p = err_from_is_err_and c.from-residual-in-err-open-2.result c.from-residual-in-err-open-2.ensures.1 in
+    let p = err_from_is_err_and c.from_residual-in_err-open-2.result c.from_residual-in_err-open-2.ensures.1 in
     record {
       drawn = search rules;
       halts =
-          refused_as c.from-residual-in-err-open-2.result c.in-err-open-2.field-0.0 p.0 _ p.1 p.2
-          (halts_start a c.args.left c.in-Some.byte _ c.in-Some.ensures c.if-byte-eq99.false c.in-default-unary-operator.ensures c.in-err-open-2.ensures);
-      told = told_refused c.from-residual-in-err-open-2.result c.in-err-open-2.field-0.0 p.0 a _ _ _ p.1 p.2 (λ behind. at_start a _ c.in-err-open-2.field-0.0 (open_place a c.args.left _ c.in-err-open-2.ensures));
+          refused_as c.from_residual-in_err-open-2.result c.in_err-open-2.field-0.0 p.0 _ p.1 p.2
+          (halts_start a c.args.left c.in-Some.byte _ c.in-Some.ensures c.if-byte-eq99.false c.in_default-unary_operator.ensures c.in_err-open-2.ensures);
+      told = told_refused c.from_residual-in_err-open-2.result c.in_err-open-2.field-0.0 p.0 a _ _ _ p.1 p.2 (λ behind. at_start a _ c.in_err-open-2.field-0.0 (open_place a c.args.left _ c.in_err-open-2.ensures));
       read = search rules;
     }
 
-pub returns-in-err-left-operand : goal.returns-in-err-left-operand
-returns-in-err-left-operand t c =
+pub returns-in_err-left_operand : goal.returns-in_err-left_operand
+returns-in_err-left_operand t c =
     let a = c.args.cursor.now in
-    let enter = c.in-ok-open-2.ensures.0 in
+    let enter = c.in_ok-open-2.ensures.0 in
     let o = c.open-2.new.self in
-    let p = err_from_is_err_and c.from-residual-in-err-left-operand.result c.from-residual-in-err-left-operand.ensures.1 in
+    let p = err_from_is_err_and c.from_residual-in_err-left_operand.result c.from_residual-in_err-left_operand.ensures.1 in
     record {
       drawn = search rules;
       halts =
-          refused_as c.from-residual-in-err-left-operand.result c.in-err-left-operand.field-0.0 p.0 _ p.1 p.2
-          (halts_left_inside a o c.args.left _ enter c.in-ok-open-2.ensures.1 c.in-err-left-operand.ensures.halts);
-      told = told_refused c.from-residual-in-err-left-operand.result c.in-err-left-operand.field-0.0 p.0 a _ _ _ p.1 p.2 (λ behind. through_left enter c.in-err-left-operand.ensures.told);
+          refused_as c.from_residual-in_err-left_operand.result c.in_err-left_operand.field-0.0 p.0 _ p.1 p.2
+          (halts_left_inside a o c.args.left _ enter c.in_ok-open-2.ensures.1 c.in_err-left_operand.ensures.halts);
+      told = told_refused c.from_residual-in_err-left_operand.result c.in_err-left_operand.field-0.0 p.0 a _ _ _ p.1 p.2 (λ behind. through_left enter c.in_err-left_operand.ensures.told);
       read = search rules;
     }
 
-pub returns-in-err-expect-2 : goal.returns-in-err-expect-2
-returns-in-err-expect-2 t c =
+pub returns-in_err-expect-2 : goal.returns-in_err-expect-2
+returns-in_err-expect-2 t c =
     let a = c.args.cursor.now in
-    let enter = c.in-ok-open-2.ensures.0 in
-    let q = c.in-ok-left-operand.ensures.read in
-    let p = err_from_is_err_and c.from-residual-in-err-expect-2.result c.from-residual-in-err-expect-2.ensures.1 in
-    let none = c.in-err-expect-2.ensures in
+    let enter = c.in_ok-open-2.ensures.0 in
+    let q = c.in_ok-left_operand.ensures.read in
+    let p = err_from_is_err_and c.from_residual-in_err-expect-2.result c.from_residual-in_err-expect-2.ensures.1 in
+    let none = c.in_err-expect-2.ensures in
     record {
       drawn = search rules;
       halts =
-          refused_as c.from-residual-in-err-expect-2.result c.in-err-expect-2.field-0.0 p.0 _ p.1 p.2
-          (halts_left_close a c.open-2.new.self c.formula-2.new.cursor c.args.left _ enter c.in-ok-open-2.ensures.1 (took q) none.0 none.1);
-      told = told_refused c.from-residual-in-err-expect-2.result c.in-err-expect-2.field-0.0 p.0 a _ _ _ p.1 p.2 (λ behind. tells_to (sym (ap halt none.0)) (through_left enter c.in-ok-left-operand.ensures.told));
+          refused_as c.from_residual-in_err-expect-2.result c.in_err-expect-2.field-0.0 p.0 _ p.1 p.2
+          (halts_left_close a c.open-2.new.self c.formula-2.new.cursor c.args.left _ enter c.in_ok-open-2.ensures.1 (took q) none.0 none.1);
+      told = told_refused c.from_residual-in_err-expect-2.result c.in_err-expect-2.field-0.0 p.0 a _ _ _ p.1 p.2 (λ behind. tells_to (sym (ap halt none.0)) (through_left enter c.in_ok-left_operand.ensures.told));
       read = search rules;
     }
 
-pub returns-in-err-operator : goal.returns-in-err-operator
-returns-in-err-operator t c =
+pub returns-in_err-operator : goal.returns-in_err-operator
+returns-in_err-operator t c =
     let a = c.args.cursor.now in
-    let enter = c.in-ok-open-2.ensures.0 in
-    let q = c.in-ok-left-operand.ensures.read in
-    let close = c.in-ok-expect-2.ensures.1 in
-    let p = err_from_is_err_and c.from-residual-in-err-operator.result c.from-residual-in-err-operator.ensures.1 in
+    let enter = c.in_ok-open-2.ensures.0 in
+    let q = c.in_ok-left_operand.ensures.read in
+    let close = c.in_ok-expect-2.ensures.1 in
+    let p = err_from_is_err_and c.from_residual-in_err-operator.result c.from_residual-in_err-operator.ensures.1 in
     let s = c.expect-2.new.self in
-    let some = c.in-ok-open-2.ensures.1 in
+    let some = c.in_ok-open-2.ensures.1 in
     let b = behind a c.open-2.new.self c.formula-2.new.cursor s c.args.left enter some (took q) close in
     let text = a.text.now in
     let after_left = q.spelled.same ∙ enter.same in
     let there = close.same ∙ after_left in
-    let left_told = past_close text after_left close (through_left enter c.in-ok-left-operand.ensures.told) in
+    let left_told = past_close text after_left close (through_left enter c.in_ok-left_operand.ensures.told) in
     record {
       drawn = search rules;
       halts =
-          refused_as c.from-residual-in-err-operator.result c.in-err-operator.field-0.0 p.0 _ p.1 p.2
-          (halts_operator a s c.args.left _ b c.in-err-operator.ensures);
-      told = told_refused c.from-residual-in-err-operator.result c.in-err-operator.field-0.0 p.0 a _ _ _ p.1 p.2 (λ behind. past_operatorless text _ there c.in-err-operator.ensures left_told);
+          refused_as c.from_residual-in_err-operator.result c.in_err-operator.field-0.0 p.0 _ p.1 p.2
+          (halts_operator a s c.args.left _ b c.in_err-operator.ensures);
+      told = told_refused c.from_residual-in_err-operator.result c.in_err-operator.field-0.0 p.0 a _ _ _ p.1 p.2 (λ behind. past_operatorless text _ there c.in_err-operator.ensures left_told);
       read = search rules;
     }
 
-pub returns-in-err-open-3 : goal.returns-in-err-open-3
-returns-in-err-open-3 t c =
+pub returns-in_err-open-3 : goal.returns-in_err-open-3
+returns-in_err-open-3 t c =
     let a = c.args.cursor.now in
-    let enter = c.in-ok-open-2.ensures.0 in
-    let q = c.in-ok-left-operand.ensures.read in
-    let close = c.in-ok-expect-2.ensures.1 in
-    let word = c.in-ok-operator.ensures in
-    let p = err_from_is_err_and c.from-residual-in-err-open-3.result c.from-residual-in-err-open-3.ensures.1 in
+    let enter = c.in_ok-open-2.ensures.0 in
+    let q = c.in_ok-left_operand.ensures.read in
+    let close = c.in_ok-expect-2.ensures.1 in
+    let word = c.in_ok-operator.ensures in
+    let p = err_from_is_err_and c.from_residual-in_err-open-3.result c.from_residual-in_err-open-3.ensures.1 in
     let s = c.expect-2.new.self in
-    let some = c.in-ok-open-2.ensures.1 in
+    let some = c.in_ok-open-2.ensures.1 in
     let b = behind a c.open-2.new.self c.formula-2.new.cursor s c.args.left enter some (took q) close in
     let text = a.text.now in
     let after_left = q.spelled.same ∙ enter.same in
     let there = close.same ∙ after_left in
-    let left_told = past_close text after_left close (through_left enter c.in-ok-left-operand.ensures.told) in
+    let left_told = past_close text after_left close (through_left enter c.in_ok-left_operand.ensures.told) in
     record {
       drawn = search rules;
       halts =
-          refused_as c.from-residual-in-err-open-3.result c.in-err-open-3.field-0.0 p.0 _ p.1 p.2
+          refused_as c.from_residual-in_err-open-3.result c.in_err-open-3.field-0.0 p.0 _ p.1 p.2
           (⊎_elim
-          (λ h. halts_right_open a s c.binary-operator.new.self c.args.left c.in-ok-operator.operator _ b word h.0 h.1)
+          (λ h. halts_right_open a s c.binary_operator.new.self c.args.left c.in_ok-operator.operator _ b word h.0 h.1)
           (λ h. absurd (omega (arith, some, h.2)))
-          c.in-err-open-3.ensures);
-      told = told_refused c.from-residual-in-err-open-3.result c.in-err-open-3.field-0.0 p.0 a _ _ _ p.1 p.2 (λ behind. tells_to (sym (open_place c.binary-operator.new.self c.args.left _ c.in-err-open-3.ensures)) (past_operator text c.in-ok-operator.operator there word left_told));
+          c.in_err-open-3.ensures);
+      told = told_refused c.from_residual-in_err-open-3.result c.in_err-open-3.field-0.0 p.0 a _ _ _ p.1 p.2 (λ behind. tells_to (sym (open_place c.binary_operator.new.self c.args.left _ c.in_err-open-3.ensures)) (past_operator text c.in_ok-operator.operator there word left_told));
       read = search rules;
     }
 
-pub returns-in-err-right-operand : goal.returns-in-err-right-operand
-returns-in-err-right-operand t c =
+pub returns-in_err-right_operand : goal.returns-in_err-right_operand
+returns-in_err-right_operand t c =
     let a = c.args.cursor.now in
-    let enter = c.in-ok-open-2.ensures.0 in
-    let q = c.in-ok-left-operand.ensures.read in
-    let close = c.in-ok-expect-2.ensures.1 in
-    let word = c.in-ok-operator.ensures in
-    let again = c.in-ok-open-3.ensures.0 in
+    let enter = c.in_ok-open-2.ensures.0 in
+    let q = c.in_ok-left_operand.ensures.read in
+    let close = c.in_ok-expect-2.ensures.1 in
+    let word = c.in_ok-operator.ensures in
+    let again = c.in_ok-open-3.ensures.0 in
     let u = c.open-3.new.self in
-    let p = err_from_is_err_and c.from-residual-in-err-right-operand.result c.from-residual-in-err-right-operand.ensures.1 in
+    let p = err_from_is_err_and c.from_residual-in_err-right_operand.result c.from_residual-in_err-right_operand.ensures.1 in
     let s = c.expect-2.new.self in
-    let some = c.in-ok-open-2.ensures.1 in
+    let some = c.in_ok-open-2.ensures.1 in
     let b = behind a c.open-2.new.self c.formula-2.new.cursor s c.args.left enter some (took q) close in
     let text = a.text.now in
     let after_left = q.spelled.same ∙ enter.same in
     let there = close.same ∙ after_left in
-    let left_told = past_close text after_left close (through_left enter c.in-ok-left-operand.ensures.told) in
+    let left_told = past_close text after_left close (through_left enter c.in_ok-left_operand.ensures.told) in
     record {
       drawn = search rules;
       halts =
-          refused_as c.from-residual-in-err-right-operand.result c.in-err-right-operand.field-0.0 p.0 _ p.1 p.2
-          (halts_right_inside a s c.binary-operator.new.self u c.args.left c.in-ok-operator.operator _ b word again some c.in-err-right-operand.ensures.halts);
-      told = told_refused c.from-residual-in-err-right-operand.result c.in-err-right-operand.field-0.0 p.0 a _ _ _ p.1 p.2 (λ behind. through_right text (word.same ∙ there) again (past_operator text c.in-ok-operator.operator there word left_told) c.in-err-right-operand.ensures.told);
+          refused_as c.from_residual-in_err-right_operand.result c.in_err-right_operand.field-0.0 p.0 _ p.1 p.2
+          (halts_right_inside a s c.binary_operator.new.self u c.args.left c.in_ok-operator.operator _ b word again some c.in_err-right_operand.ensures.halts);
+      told = told_refused c.from_residual-in_err-right_operand.result c.in_err-right_operand.field-0.0 p.0 a _ _ _ p.1 p.2 (λ behind. through_right text (word.same ∙ there) again (past_operator text c.in_ok-operator.operator there word left_told) c.in_err-right_operand.ensures.told);
       read = search rules;
     }
 
-pub returns-in-err-expect-3 : goal.returns-in-err-expect-3
-returns-in-err-expect-3 t c =
+pub returns-in_err-expect-3 : goal.returns-in_err-expect-3
+returns-in_err-expect-3 t c =
     let a = c.args.cursor.now in
-    let enter = c.in-ok-open-2.ensures.0 in
-    let q = c.in-ok-left-operand.ensures.read in
-    let close = c.in-ok-expect-2.ensures.1 in
-    let word = c.in-ok-operator.ensures in
-    let again = c.in-ok-open-3.ensures.0 in
-    let q' = c.in-ok-right-operand.ensures.read in
-    let p = err_from_is_err_and c.from-residual-in-err-expect-3.result c.from-residual-in-err-expect-3.ensures.1 in
+    let enter = c.in_ok-open-2.ensures.0 in
+    let q = c.in_ok-left_operand.ensures.read in
+    let close = c.in_ok-expect-2.ensures.1 in
+    let word = c.in_ok-operator.ensures in
+    let again = c.in_ok-open-3.ensures.0 in
+    let q' = c.in_ok-right_operand.ensures.read in
+    let p = err_from_is_err_and c.from_residual-in_err-expect-3.result c.from_residual-in_err-expect-3.ensures.1 in
     let s = c.expect-2.new.self in
-    let some = c.in-ok-open-2.ensures.1 in
+    let some = c.in_ok-open-2.ensures.1 in
     let b = behind a c.open-2.new.self c.formula-2.new.cursor s c.args.left enter some (took q) close in
-    let none = c.in-err-expect-3.ensures in
+    let none = c.in_err-expect-3.ensures in
     let text = a.text.now in
     let after_left = q.spelled.same ∙ enter.same in
     let there = close.same ∙ after_left in
-    let left_told = past_close text after_left close (through_left enter c.in-ok-left-operand.ensures.told) in
+    let left_told = past_close text after_left close (through_left enter c.in_ok-left_operand.ensures.told) in
     record {
       drawn = search rules;
       halts =
-          refused_as c.from-residual-in-err-expect-3.result c.in-err-expect-3.field-0.0 p.0 _ p.1 p.2
-          (halts_right_close a s c.binary-operator.new.self c.open-3.new.self c.formula-3.new.cursor c.args.left c.in-ok-operator.operator _ b word again some (took q') none.0 none.1);
-      told = told_refused c.from-residual-in-err-expect-3.result c.in-err-expect-3.field-0.0 p.0 a _ _ _ p.1 p.2 (λ behind. tells_to (sym (ap halt none.0)) (through_right text (word.same ∙ there) again (past_operator text c.in-ok-operator.operator there word left_told) c.in-ok-right-operand.ensures.told));
+          refused_as c.from_residual-in_err-expect-3.result c.in_err-expect-3.field-0.0 p.0 _ p.1 p.2
+          (halts_right_close a s c.binary_operator.new.self c.open-3.new.self c.formula-3.new.cursor c.args.left c.in_ok-operator.operator _ b word again some (took q') none.0 none.1);
+      told = told_refused c.from_residual-in_err-expect-3.result c.in_err-expect-3.field-0.0 p.0 a _ _ _ p.1 p.2 (λ behind. tells_to (sym (ap halt none.0)) (through_right text (word.same ∙ there) again (past_operator text c.in_ok-operator.operator there word left_told) c.in_ok-right_operand.ensures.told));
       read = search rules;
     }
 
-pub returns-in-err-meet : goal.returns-in-err-meet
-returns-in-err-meet t c =
+pub returns-in_err-meet : goal.returns-in_err-meet
+returns-in_err-meet t c =
     let a = c.args.cursor.now in
-    let none = c.in-err-meet.ensures in
-    let p = err_from_is_err_and c.from-residual.result c.from-residual.ensures.1 in
+    let none = c.in_err-meet.ensures in
+    let p = err_from_is_err_and c.from_residual.result c.from_residual.ensures.1 in
     record {
       drawn = search rules;
       halts =
-          refused_as c.from-residual.result c.in-err-meet.field-0.0 p.0 _ p.1 p.2
-          (halts_unary_unmet a c.args.left c.in-Some.byte c.in-Some-unary-operator.operator _ c.in-Some.ensures c.in-Some-unary-operator.ensures none.0 none.1);
-      told = told_refused c.from-residual.result c.in-err-meet.field-0.0 p.0 a _ _ _ p.1 p.2 (λ behind. at_start a _ c.in-err-meet.field-0.0 (ap halt none.0));
+          refused_as c.from_residual.result c.in_err-meet.field-0.0 p.0 _ p.1 p.2
+          (halts_unary_unmet a c.args.left c.in-Some.byte c.in-Some-unary_operator.operator _ c.in-Some.ensures c.in-Some-unary_operator.ensures none.0 none.1);
+      told = told_refused c.from_residual.result c.in_err-meet.field-0.0 p.0 a _ _ _ p.1 p.2 (λ behind. at_start a _ c.in_err-meet.field-0.0 (ap halt none.0));
       read = search rules;
     }

@@ -11,7 +11,7 @@ use Rattle.reader.proofs.readers.wholes.read_text.Goals as goal
 
 pub returns : goal.returns
 returns c =
-    let q = c.in-ok-formula.ensures in
+    let q = c.in_ok-formula.ensures in
     record {
       drawn = q.drawn (search rules);
       fails =
@@ -26,16 +26,16 @@ returns c =
           (λ x end. spelt _ _ _ _ _ refl refl c.clear.ensures q.read end);
     }
 
-pub returns-in-err-formula : goal.returns-in-err-formula
-returns-in-err-formula c =
-    let p = err_from_is_err_and c.from-residual.result c.from-residual.ensures.1 in
+pub returns-in_err-formula : goal.returns-in_err-formula
+returns-in_err-formula c =
+    let p = err_from_is_err_and c.from_residual.result c.from_residual.ensures.1 in
     record {
       drawn = search rules;
       fails =
-          refused_as c.from-residual.result c.in-err-formula.field-0.0 p.0 _ p.1 p.2
-          (fails_inside _ _ refl refl c.in-err-formula.ensures.halts);
+          refused_as c.from_residual.result c.in_err-formula.field-0.0 p.0 _ p.1 p.2
+          (fails_inside _ _ refl refl c.in_err-formula.ensures.halts);
       told =
-          known_refused c.from-residual.result p.0 _ _ p.1
-          (tells_from c.clear.ensures (tells_to (sym (ap halt p.2)) (c.in-err-formula.ensures.told refl)));
+          known_refused c.from_residual.result p.0 _ _ p.1
+          (tells_from c.clear.ensures (tells_to (sym (ap halt p.2)) (c.in_err-formula.ensures.told refl)));
       read = search rules;
     }

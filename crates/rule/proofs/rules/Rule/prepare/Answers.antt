@@ -10,17 +10,17 @@ returns g c =
     let text = c.args.text.now in
     let code = g.S.Scale.code in
     let written = g.S.Scale.text in
-    let draft = parts_of c.read-text-form.new.out in
-    let form = c.read-text-form.ensures in
+    let draft = parts_of c.read_text-form.new.out in
+    let form = c.read_text-form.ensures in
     let laws = g.met.S.Scale in
     record {
       same = c.code-coded.ensures.same;
       cases =
-          judged code written text c.requires c.code-coded.result c.read-text-form.result c.earlier.result draft (parts_of c.code-coded.new.self.fresh) _ _
+          judged code written text c.requires c.code-coded.result c.read_text-form.result c.earlier.result draft (parts_of c.code-coded.new.self.fresh) _ _
           c.code-coded.ensures.cases c.earlier.ensures form.told form.fails form.read
           (λ coded spelt.
           says_only code written laws.texts_run laws.texts_apart text _
           (says code written text draft (parts_of c.code-coded.new.self.fresh) c.requires.some c.requires.short spelt coded))
           (unsaid_whole code written text laws.texts_run)
-          (λ fault unread. unsaid_run code written text laws.texts_run c.read-text-form.result draft fault form.read form.fails unread);
+          (λ fault unread. unsaid_run code written text laws.texts_run c.read_text-form.result draft fault form.read form.fails unread);
     }

@@ -9,7 +9,7 @@ use Rattle.scale.proofs.stages.StageScale.pick.Goals as goal
 
 pub returns-in-Some : goal.returns-in-Some
 returns-in-Some c =
-    let is : stage_picked c.args.lower c.args.upper ≡ Some c.stage-at.result = ap (option_map stage_of) (sym c.in-Some.ensures) ∙ ap Some (sym (search rules)) in
+    let is : stage_picked c.args.lower c.args.upper ≡ Some c.stage_at.result = ap (option_map stage_of) (sym c.in-Some.ensures) ∙ ap Some (sym (search rules)) in
     record {
       value = sym is;
       leans = subst (Leans stage_code Off c.args.lower c.args.upper) is (leans in_row c.args.lower c.args.upper);

@@ -4,4 +4,4 @@ use Rattle.solver.proofs.solvers.rows.row.Given as goal
 
 -- as many empty lists as were made
 abbrev pub invariant-loop-made : goal.invariant-loop-made
-invariant-loop-made g l = (vec_len l.domains ≡ l.-made) × (24 ≤ vec_capacity l.domains) × (row_of l.domains ≡ replicate l.-made [])
+invariant-loop-made g l = (vec_len l.domains ≡ l._made) × (24 ≤ vec_capacity l.domains) × (row_of l.domains ≡ replicate l._made [])
