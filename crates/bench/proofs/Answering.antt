@@ -16,6 +16,8 @@ use Rattle.domain.specs.Picking.{Finds as Picked, behind, first_picked, three}
 use Rattle.domain.proofs.Picked.{finds, wide_boxes}
 use Rattle.solver.specs.Truth.{Exactly, Holds, choice_of}
 use Rattle.solver.proofs.Completing.{derived_true}
+use Rattle.recording.specs.declared.recordings.Recording.{Ghosts as RecordingGhosts}
+use Rattle.scale.specs.declared.scales.Scale.{Ghosts as ScaleGhosts}
 use Rattle.bench.specs.declared.benches.Bench.{Bench}
 use Rattle.bench.specs.declared.faults.BenchFault.{BenchFault}
 use Rattle.bench.specs.Asks.{Asks, Finds, three_named}
@@ -42,7 +44,7 @@ module _ {S : Type 0} (rank : S → ℕ) (fits : (m : S) → rank m < 2 ^ 32) wh
   ask_of m rule (Some point) list ordered few fresh (Some p) (Some q) None answer h = h
   ask_of m rule (Some point) list ordered few fresh (Some p) (Some q) (Some r) answer h = (h.0, h.1, decides_as h.0 (covers_truth m rule point list ordered few fresh (limits_of p q r)) h.2)
 
-  pub ask_law : {R : Type 0} (meaning : R → Meaning S) (named : ℕ → Option S) (b : Bench R S) (p q r : ℕ) (answer : Result Bool BenchFault) → Asks rank b.solved (boxes_of b.standing) (three_named named p q r) answer → AskLaw rank meaning named b p q r answer
+  pub ask_law : {R : Type 0} {telling : RecordingGhosts R S} {scale : ScaleGhosts S} (meaning : R → Meaning S) (named : ℕ → Option S) (b : Bench R S telling scale) (p q r : ℕ) (answer : Result Bool BenchFault) → Asks rank b.solved (boxes_of b.standing) (three_named named p q r) answer → AskLaw rank meaning named b p q r answer
   ask_law meaning named b p q r answer h v agrees =
       ask_of v.told v.rule v.solved (boxes_of b.standing) (subst Ordered agrees.rule b.formula.ordered) (subst (λ l. length l ≤ 24) agrees.rule (few_parts b.formula)) agrees.fresh (named p) (named q) (named r) answer (subst (λ s. Asks rank s (boxes_of b.standing) (three_named named p q r) answer) agrees.solved h)
 
@@ -65,7 +67,7 @@ module _ {S : Type 0} (rank : S → ℕ) (fits : (m : S) → rank m < 2 ^ 32) wh
   find_of m rule None list code picked ordered few fresh right answer h = h
   find_of m rule (Some point) list code picked ordered few fresh right answer h = (h.0, h.1, found_of m rule point list code (covers_truth m rule point list ordered few fresh) (first_picked picked list) right h.0 h.2)
 
-  pub find_law : {R : Type 0} (meaning : R → Meaning S) (code : S → ℕ) (picked : Cut S → Cut S → Option S) → ((l u : Cut S) → Picks rank l u (picked l u)) → (b : Bench R S) (answer : Result (Option (ℕ × ℕ × ℕ)) BenchFault) → Finds code picked b.solved (boxes_of b.standing) answer → FindLaw rank meaning code b answer
+  pub find_law : {R : Type 0} {telling : RecordingGhosts R S} {scale : ScaleGhosts S} (meaning : R → Meaning S) (code : S → ℕ) (picked : Cut S → Cut S → Option S) → ((l u : Cut S) → Picks rank l u (picked l u)) → (b : Bench R S telling scale) (answer : Result (Option (ℕ × ℕ × ℕ)) BenchFault) → Finds code picked b.solved (boxes_of b.standing) answer → FindLaw rank meaning code b answer
   find_law meaning code picked picks b answer h v agrees =
       let list = boxes_of b.standing in
       find_of v.told v.rule v.solved list code picked (subst Ordered agrees.rule b.formula.ordered) (subst (λ l. length l ≤ 24) agrees.rule (few_parts b.formula)) agrees.fresh (finds rank picked picks 3 list (wide_boxes (vec_items b.standing.boxes))) answer (subst (λ s. Finds code picked s list answer) agrees.solved h)

@@ -15,6 +15,8 @@ use Rattle.domain.specs.Listed.{boxes_of}
 use Rattle.solver.specs.Derived.{Solves, derived}
 use Rattle.solver.specs.declared.solvers.SolveFault.{SolveFault}
 use Rattle.solver.specs.declared.solvers.SolveFault.TheVariants.{Blank, NoPoint as past_point, Full as full_list}
+use Rattle.recording.specs.declared.recordings.Recording.{Ghosts as RecordingGhosts}
+use Rattle.scale.specs.declared.scales.Scale.{Ghosts as ScaleGhosts}
 use Rattle.bench.specs.declared.benches.Bench.{Bench}
 use Rattle.bench.specs.declared.faults.BenchFault.{BenchFault}
 use Rattle.bench.specs.declared.faults.BenchFault.TheVariants.{Tape, Record, Part as part_fault, NoRule, Unsolved, Full, Ragged, Room}
@@ -53,9 +55,29 @@ amend_refused named m n point channel code (Scale (Unread at)) h = absurd h
 amend_refused named m n point channel code full_tape h = absurd h
 amend_refused named m n point channel code TickNotLater h = absurd h
 
-module _ {S R : Type 0} (rank : S → ℕ) (meaning : R → Meaning S) where
+-- the formula in force, where there are parts
+in_force : {S : Type 0} (rule : Option (Tree S)) (parts : List (Part S)) → parts ≡ parts_in_force rule → 0 < length parts → (t : Tree S) × (rule ≡ Some t) × (parts ≡ numbered 0 t)
+in_force None parts e some = absurd (omega (arith, ap length e))
+in_force (Some t) parts e some = (t, refl, e)
+
+no_force : {S : Type 0} (rule : Option (Tree S)) (parts : List (Part S)) → parts ≡ parts_in_force rule → length parts ≡ 0 → rule ≡ None
+no_force None parts e none = refl
+no_force (Some t) parts e none = absurd (omega (arith, ap length e, numbered_length 0 t, size_some t))
+
+same_derived : {S : Type 0} (rank : S → ℕ) (m n : Meaning S) (ps qs : List (Part S)) (point : ℕ) → n ≡ m → qs ≡ ps → derived rank m.mark m.points ps point ≡ derived rank n.mark n.points qs point
+same_derived rank m n ps qs point e f = ap (λ x. derived rank x.mark x.points ps point) (sym e) ∙ ap (λ x. derived rank n.mark n.points x point) (sym f)
+
+set_ok : {S : Type 0} (named : ℕ → Option S) (channels : ℕ) (rule : List (Part ℕ)) (parts : List (Part S)) → 0 < length rule → fitted_from named channels 0 rule ≡ Ok parts → wholly parts ≡ true → (t : Tree S) × (parts ≡ numbered 0 t)
+set_ok named channels [] parts some e w = absurd (omega arith)
+set_ok named channels (p ∷ ps) parts some e w =
+    ⊎_elim
+    (λ none. let h = onward_ok named channels 0 (fitted_part named channels p) (fitted_from named channels 1 ps) parts e in absurd (omega (arith, ap length (sym none ∙ h.4))))
+    (λ tree. tree)
+    (whole_tree parts w)
+
+module _ {S R : Type 0} {telling : RecordingGhosts R S} {scale : ScaleGhosts S} (rank : S → ℕ) (meaning : R → Meaning S) where
   -- a bench that changed in nothing that a view tells
-  pub agrees_still : (v : View S) (before after : Bench R S) → meaning after.recording ≡ meaning before.recording → parts_of after.formula ≡ parts_of before.formula → after.solved ≡ before.solved → boxes_of after.standing ≡ boxes_of before.standing → Agrees rank meaning v before → Agrees rank meaning v after
+  pub agrees_still : (v : View S) (before after : Bench R S telling scale) → meaning after.recording ≡ meaning before.recording → parts_of after.formula ≡ parts_of before.formula → after.solved ≡ before.solved → boxes_of after.standing ≡ boxes_of before.standing → Agrees rank meaning v before → Agrees rank meaning v after
   agrees_still v before after tells rule solved list a = record {
     told = tells ∙ a.told;
     rule = rule ∙ a.rule;
@@ -63,7 +85,7 @@ module _ {S R : Type 0} (rank : S → ℕ) (meaning : R → Meaning S) where
     fresh = subst (Fresh rank v.told v.rule v.solved) (sym list) a.fresh;
   }
 
-  pub change_law : (does : Meaning S → Result (Unit {0}) TapeFault → Meaning S → Type 0) → ((m n : Meaning S) (f : TapeFault) → does m (Err f) n → n ≡ m) → (before after : Bench R S) (answer : Result (Unit {0}) BenchFault) → Changes (λ a. does (meaning before.recording) a (meaning after.recording)) answer before.solved after.solved → after.formula ≡ before.formula → after.standing ≡ before.standing → ChangeLaw rank meaning does before answer after
+  pub change_law : (does : Meaning S → Result (Unit {0}) TapeFault → Meaning S → Type 0) → ((m n : Meaning S) (f : TapeFault) → does m (Err f) n → n ≡ m) → (before after : Bench R S telling scale) (answer : Result (Unit {0}) BenchFault) → Changes (λ a. does (meaning before.recording) a (meaning after.recording)) answer before.solved after.solved → after.formula ≡ before.formula → after.standing ≡ before.standing → ChangeLaw rank meaning does before answer after
   change_law does refused before after (Ok u) h rule list v a = (meaning after.recording, subst (λ m. does m (Ok u) (meaning after.recording)) a.told h.0, record { told = refl; rule = ap parts_of rule ∙ a.rule; solved = h.1; fresh = tt })
   change_law does refused before after (Err fault) h rule list v a =
       let f = h.0 in
@@ -71,29 +93,17 @@ module _ {S R : Type 0} (rank : S → ℕ) (meaning : R → Meaning S) where
       let was = subst (λ m. does (meaning before.recording) (Err f) m) same h.2 in
       (f, h.1, subst (λ m. does m (Err f) m) a.told was, agrees_still v before after same (ap parts_of rule) h.3 (ap boxes_of list) a)
 
-  -- the formula in force, where there are parts
-  in_force : (rule : Option (Tree S)) (parts : List (Part S)) → parts ≡ parts_in_force rule → 0 < length parts → (t : Tree S) × (rule ≡ Some t) × (parts ≡ numbered 0 t)
-  in_force None parts e some = absurd (omega (arith, ap length e))
-  in_force (Some t) parts e some = (t, refl, e)
-
-  no_force : (rule : Option (Tree S)) (parts : List (Part S)) → parts ≡ parts_in_force rule → length parts ≡ 0 → rule ≡ None
-  no_force None parts e none = refl
-  no_force (Some t) parts e none = absurd (omega (arith, ap length e, numbered_length 0 t, size_some t))
-
-  same_derived : (m n : Meaning S) (ps qs : List (Part S)) (point : ℕ) → n ≡ m → qs ≡ ps → derived rank m.mark m.points ps point ≡ derived rank n.mark n.points qs point
-  same_derived m n ps qs point e f = ap (λ x. derived rank x.mark x.points ps point) (sym e) ∙ ap (λ x. derived rank n.mark n.points x point) (sym f)
-
   -- a refused solve
-  refused_solve : (before after : Bench R S) (point : ℕ) (v : View S) → Agrees rank meaning v before → meaning after.recording ≡ meaning before.recording → parts_of after.formula ≡ parts_of before.formula → (f : SolveFault) → Solves rank (meaning before.recording).mark (meaning before.recording).points (parts_of before.formula) (Err f) point (boxes_of before.standing) (boxes_of after.standing) → after.solved ≡ before.solved → SolveRight rank v point (Err (solve_fault f)) × Agrees rank meaning v after
+  refused_solve : (before after : Bench R S telling scale) (point : ℕ) (v : View S) → Agrees rank meaning v before → meaning after.recording ≡ meaning before.recording → parts_of after.formula ≡ parts_of before.formula → (f : SolveFault) → Solves rank (meaning before.recording).mark (meaning before.recording).points (parts_of before.formula) (Err f) point (boxes_of before.standing) (boxes_of after.standing) → after.solved ≡ before.solved → SolveRight rank v point (Err (solve_fault f)) × Agrees rank meaning v after
   refused_solve before after point v a tells rule Blank h solved = (no_force v.rule (parts_of before.formula) a.rule h.0, agrees_still v before after tells rule solved h.1 a)
   refused_solve before after point v a tells rule past_point h solved =
       let f = in_force v.rule (parts_of before.formula) a.rule h.0 in
       ((f.0, f.1, subst (λ x. x.points ≤ point) a.told h.1, refl), agrees_still v before after tells rule solved h.2 a)
   refused_solve before after point v a tells rule (full_list at k) h solved =
       let f = in_force v.rule (parts_of before.formula) a.rule h.0 in
-      ((f.0, f.1, subst (λ x. point < x.points) a.told h.1, same_derived v.told (meaning before.recording) (numbered 0 f.0) (parts_of before.formula) point a.told f.2 ∙ h.2), agrees_still v before after tells rule solved h.3 a)
+      ((f.0, f.1, subst (λ x. point < x.points) a.told h.1, same_derived rank v.told (meaning before.recording) (numbered 0 f.0) (parts_of before.formula) point a.told f.2 ∙ h.2), agrees_still v before after tells rule solved h.3 a)
 
-  pub solve_law : (before after : Bench R S) (point : ℕ) (answer : Result ℕ BenchFault) → Solved rank (meaning before.recording) (parts_of before.formula) answer point (boxes_of before.standing) (boxes_of after.standing) before.solved after.solved → after.recording ≡ before.recording → after.formula ≡ before.formula → SolveLaw rank meaning before point answer after
+  pub solve_law : (before after : Bench R S telling scale) (point : ℕ) (answer : Result ℕ BenchFault) → Solved rank (meaning before.recording) (parts_of before.formula) answer point (boxes_of before.standing) (boxes_of after.standing) before.solved after.solved → after.recording ≡ before.recording → after.formula ≡ before.formula → SolveLaw rank meaning before point answer after
   solve_law before after point (Ok count) h recording rule v a =
       let m = meaning before.recording in
       let parts = parts_of before.formula in
@@ -101,7 +111,7 @@ module _ {S R : Type 0} (rank : S → ℕ) (meaning : R → Meaning S) where
       let f = in_force v.rule parts a.rule h.0.0 in
       let t = f.0 in
       let below : point < v.told.points = subst (λ x. point < x.points) a.told h.0.1 in
-      let is : derived rank v.told.mark v.told.points (numbered 0 t) point ≡ Ok list = same_derived v.told (meaning before.recording) (numbered 0 f.0) (parts_of before.formula) point a.told f.2 ∙ h.0.2 in (
+      let is : derived rank v.told.mark v.told.points (numbered 0 t) point ≡ Ok list = same_derived rank v.told (meaning before.recording) (numbered 0 f.0) (parts_of before.formula) point a.told f.2 ∙ h.0.2 in (
         (t, list, f.1, below, is, h.0.3),
         record {
           told = ap meaning recording ∙ a.told;
@@ -113,15 +123,7 @@ module _ {S R : Type 0} (rank : S → ℕ) (meaning : R → Meaning S) where
   solve_law before after point (Err fault) h recording rule v a =
       subst (λ f. SolveRight rank v point (Err f) × Agrees rank meaning v after) (sym h.1) (refused_solve before after point v a (ap meaning recording) (ap parts_of rule) h.0 h.2 h.3)
 
-  set_ok : (named : ℕ → Option S) (channels : ℕ) (rule : List (Part ℕ)) (parts : List (Part S)) → 0 < length rule → fitted_from named channels 0 rule ≡ Ok parts → wholly parts ≡ true → (t : Tree S) × (parts ≡ numbered 0 t)
-  set_ok named channels [] parts some e w = absurd (omega arith)
-  set_ok named channels (p ∷ ps) parts some e w =
-      ⊎_elim
-      (λ none. let h = onward_ok named channels 0 (fitted_part named channels p) (fitted_from named channels 1 ps) parts e in absurd (omega (arith, ap length (sym none ∙ h.4))))
-      (λ tree. tree)
-      (whole_tree parts w)
-
-  pub set_law : (named : ℕ → Option S) (before after : Bench R S) (rule : List (Part ℕ)) (answer : Result (Unit {0}) BenchFault) → Sets named (meaning before.recording).channels rule answer (parts_of before.formula) (parts_of after.formula) before.solved after.solved → after.recording ≡ before.recording → after.standing ≡ before.standing → SetLaw rank meaning named before rule answer after
+  pub set_law : (named : ℕ → Option S) (before after : Bench R S telling scale) (rule : List (Part ℕ)) (answer : Result (Unit {0}) BenchFault) → Sets named (meaning before.recording).channels rule answer (parts_of before.formula) (parts_of after.formula) before.solved after.solved → after.recording ≡ before.recording → after.standing ≡ before.standing → SetLaw rank meaning named before rule answer after
   set_law named before after rule (Ok u) h recording list v a =
       let t = set_ok named (meaning before.recording).channels rule (parts_of after.formula) h.0 h.1 after.whole in
       (t.0, ap (λ m. fitted_from named m.channels 0 rule) (sym a.told) ∙ h.1 ∙ ap Ok t.1, record { told = ap meaning recording ∙ a.told; rule = t.1; solved = h.2; fresh = tt })

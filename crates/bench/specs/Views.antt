@@ -11,6 +11,8 @@ use Rattle.domain.specs.Added.{Boxes}
 use Rattle.domain.specs.Listed.{boxes_of}
 use Rattle.solver.specs.Derived.{derived}
 use Rattle.solver.specs.Truth.{Holds}
+use Rattle.recording.specs.declared.recordings.Recording.{Ghosts as RecordingGhosts}
+use Rattle.scale.specs.declared.scales.Scale.{Ghosts as ScaleGhosts}
 use Rattle.bench.specs.declared.benches.Bench.{Bench}
 
 pub record View (S : Type 0) : Type 0 where
@@ -37,7 +39,7 @@ module _ {S : Type 0} (rank : S → ℕ) where
   Fresh m (Some t) (Some point) list = (point < m.points) × (derived rank m.mark m.points (numbered 0 t) point ≡ Ok list)
 
   -- the bench stands for the view
-  pub record Agrees {R : Type 0} (meaning : R → Meaning S) (v : View S) (b : Bench R S) : Type 0 where
+  pub record Agrees {R : Type 0} {telling : RecordingGhosts R S} {scale : ScaleGhosts S} (meaning : R → Meaning S) (v : View S) (b : Bench R S telling scale) : Type 0 where
     pub told : meaning b.recording ≡ v.told
     pub rule : parts_of b.formula ≡ parts_in_force v.rule
     pub solved : b.solved ≡ v.solved

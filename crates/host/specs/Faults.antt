@@ -14,4 +14,4 @@ host_number (Text fault) = text_number fault
 host_number (Bench fault) = bench_number fault
 
 abbrev pub records_fault : RecordsFault → BenchFault
-records_fault fault = bench.recordsFault fault
+records_fault fault = bench.records_fault fault

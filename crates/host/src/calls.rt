@@ -1,4 +1,4 @@
-// The calls that C can make.
+// The calls for hosts.
 ghost use Rattle.std.specs.Prelude.{◌≡◌, ◌<◌, ◌≤◌, ◌++◌, length, drop, pos, negsuc, ◌≤ℤ◌, ◌<ℤ◌, IfOk, OnErr};
 ghost use Rattle.host.specs.Refusals.{refusal_text};
 
@@ -32,8 +32,7 @@ fn list(
 }
 
 // The listing's length, or minus the number of the refusal.
-#[unsafe(no_mangle)]
-pub extern "C" fn stop_limits(
+pub fn stop_limits(
     heap: Global,
     text: &[u8],
     records: &[u8],
@@ -51,8 +50,7 @@ pub extern "C" fn stop_limits(
 }
 
 // Writes `refused N` and a line end, and answers how many bytes that is, or -16 and nothing where there is no room.
-#[unsafe(no_mangle)]
-pub extern "C" fn stop_limits_refusal(number: u32, output: &mut [u8]) -> i64
+pub fn stop_limits_refusal(number: u32, output: &mut [u8]) -> i64
     ensures room { length (refusal_text number) ≤ length output.old → (result ≡ pos (length (refusal_text number))) × (output.new ≡ refusal_text number ++ drop (length (refusal_text number)) output.old) }
     ensures small { length output.old < length (refusal_text number) → (result ≡ negsuc 15) × (output.new ≡ output.old) }
     ensures short { length (refusal_text number) ≤ 19 }

@@ -9,7 +9,7 @@ use Rattle.host.proofs.calls.stop_limits_refusal.Goals as goal
 pub returns-then-output-needed : goal.returns-then-output-needed
 returns-then-output-needed c =
     let long = refusal_length c.args.number in
-    let digits = ap length (c.as-bytes-digits.ensures ∙ c.decimal-word.ensures) in
+    let digits = ap length (c.as_bytes-digits.ensures ∙ c.decimal-word.ensures) in
     record {
       room = λ fits. absurd (omega arith);
       small = λ _. (refl, refl);
@@ -20,8 +20,8 @@ pub returns : goal.returns
 returns c =
     let n = c.args.number in
     let out = c.args.output.now in
-    let d = c.as-bytes-digits.result.now in
-    let is = c.as-bytes-digits.ensures ∙ c.decimal-word.ensures in
+    let d = c.as_bytes-digits.result.now in
+    let is = c.as_bytes-digits.ensures ∙ c.decimal-word.ensures in
     let long = refusal_length n in
     let short = refusal_short n (search rules) in
     let digits = ap length is in

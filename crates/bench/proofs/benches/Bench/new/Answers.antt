@@ -1,5 +1,5 @@
 use Rattle.std.proofs.lemmas.Result.{IfOk-from_err}
 use Rattle.bench.proofs.benches.Bench.new.Goals as goal
 
-pub returns-in-err-standing : goal.returns-in-err-standing
-returns-in-err-standing g c = IfOk-from_err c.from-residual-in-err-standing.result _ c.from-residual-in-err-standing.ensures.0
+pub returns-in_err-standing : goal.returns-in_err-standing
+returns-in_err-standing g c = IfOk-from_err c.from_residual-in_err-standing.result _ c.from_residual-in_err-standing.ensures.0
