@@ -69,25 +69,29 @@ def split(line, path):
     return line, ""
 
 
-def foreign(text, path):
+def foreign(text, own):
     """Names that this file has from the library or from what the checker makes."""
     found = set()
     for line in text.splitlines():
+        head = GOAL_HEAD.match(line)
+        if head:
+            found.add(head.group(1))
         m = IMPORT.match(line)
-        if m and (m.group(1).startswith("Rattle.std") or re.search(r"\.(Goals|Given|Lts|TheVariants)$", m.group(1))):
+        if not m or m.group(1).startswith("crate"):
+            continue
+        crate = re.match(r"Rattle\.(\w+)\.", m.group(1))
+        made = re.search(r"\.(Goals|Given|Lts|TheVariants)$", m.group(1))
+        if made or not crate or crate.group(1) not in own:
             for part in m.group(2).split(","):
-                words = part.split(" as ")
-                found.add(words[0].strip())
-        m = GOAL_HEAD.match(line)
-        if m:
-            found.add(m.group(1))
+                found.update(part.split(" as ")[0].strip().split("+"))
     return found
 
 
 def main():
     top = os.getcwd()
     texts = {p: open(p, encoding="utf-8").read() for p in files(top)}
-    alien = {p: foreign(t, p) for p, t in texts.items()}
+    own = set(os.listdir(os.path.join(top, "crates")))
+    alien = {p: foreign(t, own) for p, t in texts.items()}
     fields, present = set(), collections.defaultdict(set)
     for p, t in texts.items():
         for line in t.splitlines():

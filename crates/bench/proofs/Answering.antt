@@ -1,5 +1,5 @@
 -- From lists of boxes to truth: what a bench answers of a solve that stands. Assumes nothing.
-use Rattle.std.proofs.Common.{◌≡◌, ℕ, ◌^◌, ◌<◌, ◌≤◌, Bool, List, [], ◌∷◌, map, length, Some, None, Ok, Err, vec_items, Decides, Option, Result, sym, refl, ap, ◌∙◌, subst, arith}
+use Rattle.std.proofs.Common.{◌≡◌, ℕ, ◌^◌, ◌<◌, ◌≤◌, Bool, List, [], ◌∷◌, map, length, Some, None, vec_items, Decides, Option, Result, refl, subst, arith}
 use Rattle.std.specs.Option.{option_map}
 use Rattle.scale.specs.Cuts.{Picks}
 use Rattle.scale.specs.declared.cuts.Cut.{Cut}
@@ -14,15 +14,15 @@ use Rattle.domain.specs.Covering.{Covered}
 use Rattle.domain.specs.Listed.{boxes_of}
 use Rattle.domain.specs.Picking.{Finds as Picked, behind, first_picked, three}
 use Rattle.domain.proofs.Picked.{finds, wide_boxes}
-use Rattle.solver.specs.Truth.{Exactly, Holds, choice_of}
+use Rattle.solver.specs.Truth.{Exactly, choice_of}
 use Rattle.solver.proofs.Completing.{derived_true}
 use Rattle.recording.specs.declared.recordings.Recording.{Ghosts as RecordingGhosts}
 use Rattle.scale.specs.declared.scales.Scale.{Ghosts as ScaleGhosts}
 use Rattle.bench.specs.declared.benches.Bench.{Bench}
 use Rattle.bench.specs.declared.faults.BenchFault.{BenchFault}
 use Rattle.bench.specs.Asks.{Asks, Finds, three_named}
-use Rattle.bench.specs.Laws.{AskLaw, AskRight, AskedOf, FindLaw, FindRight, FoundOf, Solved}
-use Rattle.bench.specs.Views.{Agrees, Fresh, TrueAt, View, limits_of, parts_in_force}
+use Rattle.bench.specs.Laws.{AskLaw, AskedOf, FindLaw, FindRight, FoundOf, Solved}
+use Rattle.bench.specs.Views.{Fresh, TrueAt, limits_of, parts_in_force}
 
 -- a formula has few parts, by its type
 pub few_parts : {K : Type 0} (f : Formula K) → length (parts_of f) ≤ 24

@@ -1,5 +1,5 @@
 -- What a bench stands for after each call that may change it. Assumes nothing.
-use Rattle.std.proofs.Common.{◌≡◌, ℕ, ◌<◌, ◌≤◌, true, ◌⊎◌, List, [], ◌∷◌, length, Some, None, Ok, Err, Option, Result, sym, refl, ap, ◌∙◌, subst, inl, inr, ⊎_elim, arith}
+use Rattle.std.proofs.Common.{◌≡◌, ℕ, ◌<◌, ◌≤◌, true, List, [], ◌∷◌, length, Some, None, Ok, Err, Option, Result, sym, refl, ap, ◌∙◌, subst, ⊎_elim, arith}
 use Rattle.recording.specs.Changes.{Added, Withdrawn}
 use Rattle.recording.specs.Meaning.{Meaning}
 use Rattle.recording.specs.declared.faults.TapeFault.{TapeFault}
@@ -7,10 +7,9 @@ use Rattle.recording.specs.declared.faults.TapeFault.TheVariants.{NoChannel, NoP
 use Rattle.scale.specs.declared.faults.ScaleFault.TheVariants.{Unread, NoMark}
 use Rattle.formula.specs.Assembly.{wholly}
 use Rattle.formula.specs.Formulas.{parts_of}
-use Rattle.formula.specs.Trees.{Tree, numbered, size}
+use Rattle.formula.specs.Trees.{Tree, numbered}
 use Rattle.formula.specs.declared.parts.Part.{Part}
 use Rattle.formula.proofs.Assembling.{numbered_length, size_some, whole_tree}
-use Rattle.domain.specs.Added.{Boxes}
 use Rattle.domain.specs.Listed.{boxes_of}
 use Rattle.solver.specs.Derived.{Solves, derived}
 use Rattle.solver.specs.declared.solvers.SolveFault.{SolveFault}
@@ -22,7 +21,7 @@ use Rattle.bench.specs.declared.faults.BenchFault.{BenchFault}
 use Rattle.bench.specs.declared.faults.BenchFault.TheVariants.{Tape, Record, Part as part_fault, NoRule, Unsolved, Full, Ragged, Room}
 use Rattle.bench.specs.Changes.{Changes, CodeAmended}
 use Rattle.bench.specs.Faults.{solve_fault}
-use Rattle.bench.specs.Laws.{ChangeLaw, SetLaw, SolveLaw, SolveRight, after_solve}
+use Rattle.bench.specs.Laws.{ChangeLaw, SetLaw, SolveLaw, SolveRight}
 use Rattle.bench.specs.Sets.{Sets}
 use Rattle.bench.specs.Settings.{fitted_from, fitted_part}
 use Rattle.bench.specs.Solved.{Solved}

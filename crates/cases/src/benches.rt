@@ -20,7 +20,7 @@ fn a_33rd_box_is_told_by_point_and_part(rt: HostRuntime) -> Result<(), Fail> {
     // The refused solve leaves the one before standing.
     let mut output = [0u8; 512];
     assert!(rt; bench.print(&mut output).is_ok());
-    assert!(rt; &output[0..9] == b"boxes 32\n");
+    assert!(rt; &output[0..9] == b"boxes 32\n".as_slice());
     Ok(())
 }
 
@@ -35,7 +35,7 @@ fn a_bench_of_stages(rt: HostRuntime) -> Result<(), Fail> {
     assert_eq!(rt; bench.solve(0), Ok(1));
     let mut output = [7u8; 16];
     assert_eq!(rt; bench.print(&mut output), Ok(14));
-    assert!(rt; &output[0..14] == b"boxes 1\np<off\n");
+    assert!(rt; &output[0..14] == b"boxes 1\np<off\n".as_slice());
     Ok(())
 }
 

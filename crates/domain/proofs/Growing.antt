@@ -1,13 +1,13 @@
 -- What one turn of a loop over boxes does to the list. Assumes nothing.
-use Rattle.std.proofs.Common.{◌≡◌, ℕ, suc, ◌+◌, ◌<◌, ◌≤◌, Bool, true, false, cond, ◌||◌, ltb, List, [], ◌∷◌, ◌++◌, map, length, get_or, take, drop, set, Ok, Err, vec_items, vec_len, Result, sym, refl, ap, ◌∙◌, subst, append_assoc, append-nil, arith, rules}
+use Rattle.std.proofs.Common.{◌≡◌, ℕ, suc, ◌+◌, ◌<◌, ◌≤◌, Bool, true, false, cond, ◌||◌, ltb, List, [], ◌∷◌, ◌++◌, length, get_or, take, drop, set, Ok, Err, vec_items, vec_len, Result, sym, refl, ap, ◌∙◌, append_assoc, arith}
 use lib.ListN.{length-map}
-use Rattle.std.proofs.lemmas.List.{drop_more, drop_all, drop-map, take-map, map_push, drop-set-lt, take_more_set}
+use Rattle.std.proofs.lemmas.List.{drop_more, drop_all, drop-map, drop-set-lt, take_more_set}
 use Rattle.std.proofs.lemmas.Bool.Decides.{nat_tests}
 use Rattle.domain.specs.declared.lists.Domain.{Domain}
 use Rattle.domain.specs.declared.lists.Full.{Full}
 use Rattle.domain.specs.declared.shapes.Orthotope.{Orthotope}
-use Rattle.domain.specs.Added.{Boxes, Sides, Outcome, some_contains, outside, added, joined, overlaps, and_then}
-use Rattle.domain.specs.Boxes.{sides_of, contains_box, empty_box, overlap_box}
+use Rattle.domain.specs.Added.{Boxes, Sides, Outcome, some_contains, outside, added, joined, and_then}
+use Rattle.domain.specs.Boxes.{sides_of, contains_box, empty_box}
 use Rattle.domain.specs.Listed.{sides_in, boxes_of, reached}
 
 pub length_sides : {S : Type 0} (bs : List (Orthotope S)) → length (sides_in bs) ≡ length bs

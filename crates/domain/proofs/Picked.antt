@@ -1,11 +1,10 @@
 -- What the boxes from one on cover and offer, and what the picks of a list mean. Assumes nothing.
-use Rattle.std.proofs.Common.{◌≡◌, ℕ, zero, suc, ◌+◌, true, false, ◌⊎◌, List, [], ◌∷◌, length, drop, is_some, Some, None, Option, sym, refl, ap, ◌∙◌, subst, inl, inr, ⊎_elim, arith}
+use Rattle.std.proofs.Common.{◌≡◌, ℕ, zero, suc, true, false, List, [], ◌∷◌, length, drop, is_some, Some, None, Option, refl, ◌∙◌, subst, inl, inr, ⊎_elim, arith}
 use Rattle.scale.specs.declared.cuts.Cut.{Cut}
 use Rattle.scale.specs.Cuts.{Between, Picks}
 use Rattle.domain.specs.declared.shapes.Orthotope.{Orthotope}
 use Rattle.domain.specs.declared.sides.Interval.{Interval}
 use Rattle.domain.specs.Added.{Boxes, Sides}
-use Rattle.domain.specs.Boxes.{sides_of}
 use Rattle.domain.specs.Covering.{Covered, In, Wide}
 use Rattle.domain.specs.Listed.{sides_in}
 use Rattle.domain.specs.Picking.{Finds, behind, first_picked, or_else, picks_of, three}

@@ -1,6 +1,6 @@
 -- How a list of boxes grows: each step ends with the list, or is stopped at the list it had when a box would have been
 -- the 33rd. Assumes nothing.
-use Rattle.std.specs.Prelude.{ℕ, Bool, true, false, cond, ◌||◌, List, [], ◌∷◌, ◌++◌, map, length, Ok, Err, Result, nat_lt}
+use Rattle.std.specs.Prelude.{ℕ, Bool, false, cond, ◌||◌, List, [], ◌∷◌, ◌++◌, map, length, Ok, Err, Result, nat_lt}
 use Rattle.domain.specs.declared.sides.Interval.{Interval}
 use Rattle.domain.specs.Boxes.{empty_box, contains_box, overlap_box}
 

@@ -2,7 +2,6 @@
 use Rattle.std.specs.Prelude.{◌≡◌, ℕ, ◌≤◌, ◌⊎◌, List, [], ◌∷◌, length, Ok}
 use Rattle.std.specs.List.{AllByRecursion as All}
 use Rattle.scale.specs.Cuts.{Between}
-use Rattle.domain.specs.declared.sides.Interval.{Interval}
 use Rattle.domain.specs.Added.{Boxes, Sides, added, joined, met}
 
 -- each box has a side for each of n limits

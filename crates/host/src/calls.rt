@@ -32,13 +32,7 @@ fn list(
 }
 
 // The listing's length, or minus the number of the refusal.
-pub fn stop_limits(
-    heap: Global,
-    text: &[u8],
-    records: &[u8],
-    point: u64,
-    output: &mut [u8],
-) -> i64
+pub fn stop_limits(heap: Global, text: &[u8], records: &[u8], point: u64, output: &mut [u8]) -> i64
     ensures least { negsuc 98 ≤ℤ result }
     ensures most { result ≤ℤ pos (length output.old) }
     ensures refused { result <ℤ pos 0 → output.new ≡ output.old }

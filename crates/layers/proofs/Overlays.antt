@@ -1,5 +1,5 @@
 -- What is told of the channel that a layer adds, and of all else.
-use Rattle.std.proofs.Common.{◌≡◌, ℕ, ◌+◌, ◌<◌, ◌≤◌, refl, ap, ◌∙◌, arith}
+use Rattle.std.proofs.Common.{◌≡◌, ℕ, ◌<◌, refl, ap, ◌∙◌, arith}
 use Rattle.std.proofs.lemmas.Bool.Decides.{nat_tests}
 use Rattle.layers.specs.declared.layers.Layer.{Layer}
 use Rattle.layers.specs.Layers.{Overlaid, layered, told_by}

@@ -1,5 +1,5 @@
 -- A listing that was made step by step is the listing, and it has room. Assumes nothing.
-use Rattle.std.proofs.Common.{◌≡◌, ℕ, ◌+◌, ◌*◌, ◌≤◌, Bool, true, false, cond, List, [], ◌∷◌, ◌++◌, length, take, codes, decimal, sym, refl, ap, ◌∙◌, append_assoc, append-nil, arith, length-append, take_all}
+use Rattle.std.proofs.Common.{◌≡◌, ℕ, ◌+◌, ◌*◌, ◌≤◌, Bool, true, false, List, [], ◌∷◌, ◌++◌, length, take, codes, decimal, sym, refl, ap, ◌∙◌, append_assoc, append-nil, arith, length-append, take_all}
 use Rattle.std.specs.List.{AllByRecursion as All}
 use Rattle.std.proofs.lemmas.Fmt.{length-decimal-le}
 use Rattle.scale.specs.declared.cuts.Cut.{Cut}

@@ -1,5 +1,5 @@
 -- A listing tells its boxes: it is read back line by line, comparison by comparison and cut by cut. Assumes nothing.
-use Rattle.std.proofs.Common.{◌≡◌, ℕ, suc, ◌+◌, ◌*◌, ◌%◌, ◌^◌, ◌<◌, ◌≤◌, Bool, true, false, ◌||◌, leb, List, [], ◌∷◌, ◌++◌, map, length, take, drop, codes, decimal, sym, refl, ap, ◌∙◌, subst, ⊎_elim, append_assoc, arith}
+use Rattle.std.proofs.Common.{◌≡◌, ℕ, suc, ◌+◌, ◌%◌, ◌^◌, ◌<◌, ◌≤◌, Bool, true, false, ◌||◌, List, [], ◌∷◌, ◌++◌, map, length, take, drop, codes, decimal, sym, refl, ap, ◌∙◌, subst, ⊎_elim, append_assoc, arith}
 use Rattle.std.specs.List.{AllByRecursion as All}
 use Rattle.std.proofs.lemmas.Fmt.{decimal_by_steps}
 use Rattle.std.proofs.ByRecursion.{All-append, All-push, All-weaker}
@@ -12,8 +12,8 @@ use Rattle.domain.specs.declared.sides.Interval.{Interval}
 use Rattle.domain.specs.Added.{Boxes, Sides}
 use Rattle.domain.specs.Boxes.{empty_box}
 use Rattle.domain.specs.Sides.{empty_side}
-use Rattle.listing.specs.Apart.{Listable, ListingsApart}
-use Rattle.listing.specs.Listings.{comparison, comparisons, further, joined, line, lines, listing_text, lowers, names, uppers}
+use Rattle.listing.specs.Apart.{ListingsApart}
+use Rattle.listing.specs.Listings.{comparison, comparisons, further, joined, line, lines, lowers, names, uppers}
 
 never : {A : Type 0} {x : A} {xs : List A} → [] ≡ x ∷ xs → ⊥
 never {A} {x} {xs} e = let z : 0 ≡ suc (length xs) = ap length e in omega arith

@@ -1,5 +1,5 @@
 -- How a listing grows while it is made: each step is put behind what stands. Assumes nothing.
-use Rattle.std.specs.Prelude.{ℕ, Bool, true, false, cond, List, [], ◌∷◌, codes, decimal}
+use Rattle.std.specs.Prelude.{ℕ, true, false, cond, List, [], ◌∷◌, codes, decimal}
 use Rattle.scale.specs.declared.cuts.Cut.{Cut}
 use Rattle.scale.specs.declared.cuts.Cut.TheVariants.{LowerEnd, Below, Above, UpperEnd}
 use Rattle.domain.specs.declared.sides.Interval.{Interval}

@@ -2,7 +2,6 @@
 use Rattle.std.specs.Prelude.{ℕ, List, [], ◌∷◌, ◌++◌, length, codes, decimal}
 use Rattle.scale.specs.declared.cuts.Cut.{Cut}
 use Rattle.scale.specs.declared.cuts.Cut.TheVariants.{LowerEnd, Below, Above, UpperEnd}
-use Rattle.domain.specs.declared.sides.Interval.{Interval}
 use Rattle.domain.specs.Added.{Boxes, Sides}
 
 -- the names of the limits, in the order of a box's sides

@@ -1,5 +1,5 @@
 -- An operator is read when its pieces and its operands are.
-use Rattle.std.proofs.Common.{◌≡◌, ℕ, ◌+◌, ◌-◌, ◌<◌, ◌≤◌, List, [], ◌∷◌, ◌++◌, length, sym, refl, ap, ◌∙◌, subst, append_assoc, arith, Bor}
+use Rattle.std.proofs.Common.{◌≡◌, ℕ, ◌+◌, ◌-◌, ◌<◌, List, [], ◌∷◌, ◌++◌, length, sym, ap, ◌∙◌, subst, append_assoc, arith, Bor}
 use Rattle.formula.specs.declared.parts.BinaryOperator.{BinaryOperator}
 use Rattle.formula.specs.declared.parts.UnaryOperator.{UnaryOperator}
 use Rattle.formula.specs.declared.parts.Part.{Part}
@@ -10,7 +10,7 @@ use Rattle.reader.specs.Cursors.{Meets, Passes}
 use Rattle.reader.specs.Reads.{Reads, Formed}
 use Rattle.reader.specs.Runs.{bytes_in}
 use Rattle.reader.specs.Spellings.{unary_text, binary_text}
-use Rattle.formula.specs.Trees.{Tree, one, two, size, root, numbered}
+use Rattle.formula.specs.Trees.{one, two, size, root, numbered}
 use Rattle.reader.specs.Written.{spelling}
 use Rattle.reader.proofs.Numbering.{grown}
 use Rattle.reader.proofs.Passing.{then, meeting}

@@ -1,7 +1,7 @@
 -- How many parts a tree has, and the number of the last one.
 use Rattle.std.proofs.Common.{◌≡◌, ℕ, ◌+◌, ◌≤◌, List, [], ◌∷◌, ◌++◌, length, refl, ap, ◌∙◌, arith, length-append}
 use Rattle.formula.specs.declared.parts.Part.{Part}
-use Rattle.formula.specs.declared.parts.Part.TheVariants.{Unary, Binary}
+use Rattle.formula.specs.declared.parts.Part.TheVariants.{Binary}
 use Rattle.reader.specs.declared.readers.Cursor.{Cursor}
 use Rattle.reader.specs.declared.readers.Run.{Run}
 use Rattle.reader.specs.Reads.{Reads}

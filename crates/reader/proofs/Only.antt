@@ -1,14 +1,11 @@
 -- A text says one formula at most.
-use Rattle.std.proofs.Common.{◌≡◌, ℕ, ◌<◌, ◌≤◌, List, [], ◌∷◌, ◌++◌, length, sym, refl, ap, ◌∙◌, subst, append-nil, arith}
+use Rattle.std.proofs.Common.{◌≡◌, ℕ, List, [], ◌∷◌, ◌++◌, sym, refl, ap, ◌∙◌, arith}
 use Rattle.std.specs.List.{AllByRecursion as All}
 use Rattle.scale.specs.Marks.{Apart, RunByte, RunText}
-use Rattle.formula.specs.declared.parts.BinaryOperator.{BinaryOperator}
-use Rattle.formula.specs.declared.parts.Comparator.{Comparator}
 use Rattle.formula.specs.declared.parts.LimitName.{LimitName}
 use Rattle.formula.specs.declared.parts.Operand.{Operand}
 use Rattle.formula.specs.declared.parts.Operand.TheVariants.{Limit, Channel, Constant}
 use Rattle.formula.specs.declared.parts.Part.{Part}
-use Rattle.formula.specs.declared.parts.UnaryOperator.{UnaryOperator}
 use Rattle.reader.specs.Sayings.{Says, SaysOnly, Sayable, Spellable}
 use Rattle.reader.specs.Spellings.{binary_text, channel_name, comparator_text, unary_text}
 use Rattle.formula.specs.Trees.{Tree, compares, one, two, map_operand, map_tree, numbered}

@@ -1,5 +1,5 @@
 -- Formulas at the front of a text, each constant as its bytes. Assumes nothing.
-use Rattle.std.specs.Prelude.{◌≡◌, ℕ, ◌<◌, ◌≤◌, List, [], ◌∷◌, ◌++◌, length, ◌≢◌}
+use Rattle.std.specs.Prelude.{ℕ, ◌<◌, ◌≤◌, List, [], ◌∷◌, ◌++◌, length, ◌≢◌}
 use Rattle.scale.specs.Marks.{RunByte}
 use Rattle.formula.specs.declared.parts.Operand.{Operand}
 use Rattle.formula.specs.declared.parts.Operand.TheVariants.{Limit, Channel, Constant}

@@ -3,7 +3,6 @@ use Rattle.std.specs.Prelude.{◌≡◌, ℕ, ◌<◌, ◌≤◌, List, length}
 use Rattle.formula.specs.declared.parts.Operand.{Operand}
 use Rattle.formula.specs.declared.parts.Operand.TheVariants.{Limit, Channel, Constant}
 use Rattle.formula.specs.declared.parts.Part.{Part}
-use Rattle.formula.specs.Formulas.{parts_of}
 use Rattle.reader.specs.Operands.{Unnamed}
 use Rattle.formula.specs.Trees.{Tree, compares, one, two, size, numbered, depth, map_tree}
 use Rattle.reader.specs.Written.{spelling}

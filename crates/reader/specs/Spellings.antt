@@ -1,5 +1,5 @@
 -- How the words of a rule are written. Assumes nothing.
-use Rattle.std.specs.Prelude.{◌≡◌, ℕ, ◌+◌, ◌≤◌, cond, ◌⊎◌, List, [], ◌∷◌, codes, nat_lt}
+use Rattle.std.specs.Prelude.{ℕ, ◌+◌, cond, List, [], ◌∷◌, codes, nat_lt}
 use Rattle.formula.specs.declared.parts.LimitName.{LimitName}
 use Rattle.formula.specs.declared.parts.LimitName.TheVariants.{P, Q, R}
 use Rattle.formula.specs.declared.parts.Comparator.{Comparator}

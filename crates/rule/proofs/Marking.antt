@@ -1,18 +1,14 @@
 -- From a formula over runs and its coded parts to the formula over marks.
-use Rattle.std.proofs.Common.{◌≡◌, ℕ, suc, ◌+◌, ◌-◌, ◌<◌, ◌≤◌, max, List, [], ◌∷◌, ◌++◌, length, get_or, sym, refl, ap, ◌∙◌, subst, add-one, arith}
-use Rattle.formula.specs.declared.parts.BinaryOperator.{BinaryOperator}
-use Rattle.formula.specs.declared.parts.Comparator.{Comparator}
+use Rattle.std.proofs.Common.{◌≡◌, ℕ, suc, ◌+◌, ◌-◌, ◌<◌, ◌≤◌, max, List, [], ◌∷◌, ◌++◌, length, get_or, sym, refl, ap, ◌∙◌, subst, arith}
 use Rattle.formula.specs.declared.parts.Operand.{Operand}
 use Rattle.formula.specs.declared.parts.Operand.TheVariants.{Limit, Channel, Constant}
 use Rattle.formula.specs.declared.parts.Part.{Part}
 use Rattle.formula.specs.declared.parts.Part.TheVariants.{Comparison, Unary, Binary}
-use Rattle.formula.specs.declared.parts.UnaryOperator.{UnaryOperator}
-use Rattle.formula.specs.declared.parts.UnaryOperator.TheVariants.{Not}
 use Rattle.reader.specs.declared.readers.Run.{Run}
 use Rattle.reader.specs.Codings.{AllCoded, CodedOperand, CodedPart}
 use Rattle.reader.specs.Operands.{Unnamed}
 use Rattle.reader.specs.Reads.{Formed, Spelt, Stands}
-use Rattle.reader.specs.Sayings.{Sayable, Says, Sized, Spellable}
+use Rattle.reader.specs.Sayings.{Sayable, Says, Spellable}
 use Rattle.reader.specs.Runs.{bytes_in}
 use Rattle.reader.specs.Spellings.{channel_name, comparator_text, unary_text, binary_text}
 use Rattle.formula.specs.Trees.{Tree, compares, one, two, size, root, numbered, depth, map_operand, map_tree}

@@ -1,12 +1,12 @@
 -- The derived list covers exactly the limits with which the formula is true. Assumes nothing.
-use Rattle.std.proofs.Common.{◌≡◌, ℕ, zero, suc, ◌+◌, ◌-◌, ◌^◌, ◌<◌, ◌≤◌, Bool, true, false, cond, eqb, List, [], ◌∷◌, ◌++◌, length, get_or, Ok, Err, sym, refl, ap, ◌∙◌, subst, append-nil, arith, eqb-true}
+use Rattle.std.proofs.Common.{◌≡◌, ℕ, zero, suc, ◌+◌, ◌-◌, ◌^◌, ◌<◌, ◌≤◌, Bool, false, cond, eqb, List, [], ◌∷◌, ◌++◌, length, get_or, Ok, Err, sym, refl, ap, ◌∙◌, subst, append-nil, arith, eqb-true}
 use borrow.Author.Tests.{eqb-false}
 use lib.Seq.{get_or-append_seam}
 use Rattle.std.proofs.lemmas.List.{get_or_append_left, length_push}
 use Rattle.formula.specs.declared.parts.LimitName.{LimitName}
 use Rattle.formula.specs.declared.parts.Part.{Part}
-use Rattle.formula.specs.Orders.{Ordered, reach}
-use Rattle.formula.specs.Trees.{Tree, numbered, root, size}
+use Rattle.formula.specs.Orders.{Ordered}
+use Rattle.formula.specs.Trees.{Tree, numbered, root}
 use Rattle.domain.specs.Added.{Boxes, Outcome}
 use Rattle.domain.specs.Covering.{Covered}
 use Rattle.solver.specs.Derived.{Row, Rows, derived, row_from, rows_back, settle, then_row, then_rows, told, whole_of}
@@ -14,12 +14,10 @@ use Rattle.solver.specs.Labels.{at, labelled}
 use Rattle.solver.specs.Signs.{part_signs}
 use Rattle.solver.specs.Steps.{settled, step_for, step_of}
 use Rattle.solver.specs.Truth.{Exactly, Holds, choice_of, on_path}
-use Rattle.solver.specs.declared.solvers.SolveFault.{SolveFault}
-use Rattle.solver.specs.declared.steps.Step.{Step}
 use Rattle.solver.proofs.Descending.{Within, within}
 use Rattle.solver.proofs.Reaching.{step_reach}
 use Rattle.solver.proofs.Rowing.{Alike, alike_same, labelled_alike}
-use Rattle.solver.proofs.Standing.{Has, Signed, Stands, numbered_length, signs_stand, stands}
+use Rattle.solver.proofs.Standing.{numbered_length, signs_stand, stands}
 use Rattle.solver.proofs.Telling.{Tells}
 use Rattle.solver.proofs.Truly.{TrueRow, row_tells}
 

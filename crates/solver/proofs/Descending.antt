@@ -1,15 +1,14 @@
 -- From the row at one point to the row at the point before it. Assumes nothing.
-use Rattle.std.proofs.Common.{◌≡◌, ℕ, zero, suc, ◌+◌, ◌-◌, ◌<◌, ◌≤◌, Bool, true, false, cond, eqb, List, [], ◌∷◌, ◌++◌, length, get_or, take, drop, Ok, Err, Result, sym, refl, ap, ◌∙◌, subst, ⊎_elim, arith, length-append, eq-eqb}
+use Rattle.std.proofs.Common.{◌≡◌, ℕ, zero, suc, ◌+◌, ◌-◌, ◌<◌, ◌≤◌, Bool, false, cond, List, [], ◌∷◌, ◌++◌, length, get_or, take, Ok, Err, sym, refl, ap, ◌∙◌, subst, ⊎_elim, arith, eq-eqb}
 use Rattle.std.proofs.lemmas.List.{length_push}
 use Rattle.std.proofs.str.Laws.{order}
 use Rattle.formula.specs.declared.parts.Part.{Part}
 use Rattle.formula.specs.Orders.{Ordered, reach}
 use Rattle.solver.specs.declared.solvers.SolveFault.{SolveFault}
-use Rattle.solver.specs.declared.solvers.SolveFault.TheVariants.{Full}
 use Rattle.solver.specs.declared.steps.Step.{Step}
 use Rattle.solver.specs.declared.steps.Step.TheVariants.{Bound, Everything, Nothing, Same, Join, Meet, Later}
-use Rattle.domain.specs.Added.{Boxes, Outcome}
-use Rattle.solver.specs.Derived.{Row, Rows, row_from, rows_back, settle, then_row, then_rows, told}
+use Rattle.domain.specs.Added.{Boxes}
+use Rattle.solver.specs.Derived.{row_from, rows_back, settle, then_row, then_rows, told}
 use Rattle.solver.specs.Labels.{labelled}
 use Rattle.solver.specs.Signs.{part_signs}
 use Rattle.solver.specs.Steps.{settled, step_for, step_of}

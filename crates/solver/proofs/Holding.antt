@@ -1,5 +1,5 @@
 -- A formula stands still from the last point on, and at each place it is true or it is not. Assumes nothing.
-use Rattle.std.proofs.Common.{◌≡◌, ℕ, ◌+◌, ◌-◌, ◌<◌, ◌≤◌, ◌⊎◌, subst, inl, inr, ⊎_elim, arith}
+use Rattle.std.proofs.Common.{◌≡◌, ℕ, ◌+◌, ◌-◌, ◌⊎◌, subst, inl, inr, ⊎_elim, arith}
 use Rattle.std.proofs.str.Laws.{order}
 use Rattle.formula.specs.declared.parts.BinaryOperator.TheVariants.{And, Or, Implies, Until, WeakUntil}
 use Rattle.formula.specs.declared.parts.Comparator.{Comparator}

@@ -1,5 +1,5 @@
 -- A step looks at no list but those of the part's operands. Assumes nothing.
-use Rattle.std.proofs.Common.{◌≡◌, ℕ, ◌+◌, ◌≤◌, max, Bool, true, false, cond, eqb, ap, arith}
+use Rattle.std.proofs.Common.{◌≡◌, ℕ, ◌+◌, ◌≤◌, Bool, true, false, cond, eqb, ap, arith}
 use Rattle.formula.specs.Orders.{reach}
 use Rattle.formula.specs.declared.parts.Operand.TheVariants.{Limit, Channel, Constant}
 use Rattle.formula.specs.declared.parts.Part.{Part}

@@ -1,6 +1,6 @@
 -- Where the parts of a formula stand in a list of parts, and which signs they have. Assumes nothing.
-use Rattle.std.proofs.Common.{◌≡◌, ℕ, ◌+◌, ◌-◌, ◌<◌, ◌≤◌, Bool, false, ◌⊎◌, List, [], ◌∷◌, ◌++◌, reverse, length, get_or, set, replicate, sym, refl, ap, ◌∙◌, subst, inl, inr, append_assoc, append-nil, arith, length-append, length-set, get_or-set_other, get_or-set_same}
-use lib.ListN.{get_or-replicate, length-replicate, length-reverse}
+use Rattle.std.proofs.Common.{◌≡◌, ℕ, ◌+◌, ◌-◌, ◌<◌, ◌≤◌, Bool, false, List, [], ◌∷◌, ◌++◌, reverse, length, get_or, set, replicate, sym, refl, ap, ◌∙◌, subst, append_assoc, append-nil, arith, length-append, length-set, get_or-set_other, get_or-set_same}
+use lib.ListN.{get_or-replicate, length-reverse}
 use lib.Seq.{get_or-append_seam}
 use Rattle.std.proofs.lemmas.List.{reverse-append}
 use Rattle.formula.specs.declared.parts.Part.{Part}

@@ -1,16 +1,16 @@
 -- What a list of boxes says of one choice of limits, and what join and meet make of it. Assumes nothing.
-use Rattle.std.proofs.Common.{◌≡◌, ℕ, ◌^◌, ◌<◌, ◌≤◌, Bool, true, false, cond, ◌⊎◌, List, [], ◌∷◌, length, set, Ok, Err, sym, refl, subst, inl, inr, ⊎_elim, arith}
+use Rattle.std.proofs.Common.{◌≡◌, ℕ, ◌^◌, ◌<◌, Bool, true, false, ◌⊎◌, [], ◌∷◌, set, Ok, Err, refl, subst, inl, inr, ⊎_elim, arith}
 use Rattle.std.proofs.lemmas.Bool.Decides.{nat_tests}
 use Rattle.std.proofs.str.Laws.{order}
-use Rattle.scale.specs.Cuts.{Between, place}
-use Rattle.formula.specs.Parts.{limit_index, opposed}
+use Rattle.scale.specs.Cuts.{Between}
+use Rattle.formula.specs.Parts.{limit_index}
 use Rattle.formula.specs.declared.parts.Comparator.{Comparator}
 use Rattle.formula.specs.declared.parts.Comparator.TheVariants.{Less, Greater, AtMost, AtLeast}
 use Rattle.formula.specs.declared.parts.LimitName.{LimitName}
 use Rattle.formula.specs.declared.parts.LimitName.TheVariants.{P, Q, R}
 use Rattle.domain.specs.Added.{Boxes, Outcome, and_then, joined, met}
 use Rattle.domain.specs.Boxes.{full_box}
-use Rattle.domain.specs.Covering.{Covered, In, Wide}
+use Rattle.domain.specs.Covering.{Covered, Wide}
 use Rattle.domain.specs.Sides.{full_side}
 use Rattle.domain.proofs.Covers.{join_covers, meet_covers}
 use Rattle.solver.specs.Comparisons.{meets, side_of}

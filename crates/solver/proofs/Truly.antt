@@ -1,5 +1,5 @@
 -- Each list of each row says when its part is true under its sign. Assumes nothing.
-use Rattle.std.proofs.Common.{◌≡◌, ℕ, zero, suc, ◌+◌, ◌-◌, ◌^◌, ◌<◌, ◌≤◌, Bool, true, false, cond, ◌⊎◌, List, [], ◌∷◌, ◌++◌, length, get_or, set, Ok, Err, sym, refl, ap, ◌∙◌, subst, inl, inr, ⊎_elim, arith}
+use Rattle.std.proofs.Common.{◌≡◌, ℕ, ◌+◌, ◌-◌, ◌^◌, ◌<◌, ◌≤◌, Bool, true, false, cond, List, [], ◌∷◌, get_or, set, Ok, sym, refl, ap, ◌∙◌, inl, inr, ⊎_elim, arith}
 use Rattle.formula.specs.declared.parts.BinaryOperator.TheVariants.{And, Or, Implies, Until as until_op, WeakUntil as weak_op}
 use Rattle.formula.specs.declared.parts.Comparator.{Comparator}
 use Rattle.formula.specs.declared.parts.LimitName.{LimitName}
@@ -9,12 +9,12 @@ use Rattle.formula.specs.declared.parts.Part.TheVariants.{Comparison, Unary, Bin
 use Rattle.formula.specs.declared.parts.UnaryOperator.TheVariants.{Not, Next as next_op, Finally, Globally}
 use Rattle.formula.specs.Parts.{limit_index}
 use Rattle.formula.specs.Trees.{Tree, compares, one, root, size, two}
-use Rattle.domain.specs.Added.{Boxes, Outcome, and_then, joined, met}
+use Rattle.domain.specs.Added.{Boxes, and_then, joined, met}
 use Rattle.domain.specs.Boxes.{full_box}
 use Rattle.solver.specs.Comparisons.{meets, side_of}
 use Rattle.solver.specs.Labels.{at, foreseen, labelled}
 use Rattle.solver.specs.Steps.{last_step, settled, step_of, step_under_sign}
-use Rattle.solver.specs.Truth.{Always, Compares, Holds, HoldsUnless, HoldsUntil, Sometime, against, on_path}
+use Rattle.solver.specs.Truth.{Compares, Holds, on_path}
 use Rattle.solver.specs.declared.steps.Outlook.{Outlook}
 use Rattle.solver.specs.declared.steps.Outlook.TheVariants.{Next, Eventually, Always as always_on, Until, WeakUntil}
 use Rattle.solver.specs.declared.steps.Step.{Step}

@@ -1,5 +1,5 @@
 -- How a part's list is made, by kind and sign. A turned part says the opposite of the part. Assumes nothing.
-use Rattle.std.specs.Prelude.{ℕ, ◌+◌, max, Bool, true, false, cond, ◌==◌}
+use Rattle.std.specs.Prelude.{ℕ, ◌+◌, max, Bool, cond, ◌==◌}
 use Rattle.formula.specs.Parts.{opposed}
 use Rattle.formula.specs.declared.parts.Comparator.{Comparator}
 use Rattle.formula.specs.declared.parts.Operand.TheVariants.{Limit, Channel, Constant}

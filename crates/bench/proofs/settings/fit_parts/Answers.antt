@@ -1,4 +1,4 @@
-use Rattle.std.proofs.Common.{◌≡◌, ℕ, ◌+◌, ◌<◌, ◌≤◌, [], ◌∷◌, ◌++◌, length, get_or, drop, Ok, Err, sym, refl, ap, ◌∙◌, append-nil, arith}
+use Rattle.std.proofs.Common.{◌≡◌, ℕ, ◌+◌, ◌≤◌, [], ◌∷◌, ◌++◌, length, get_or, drop, Ok, sym, ap, ◌∙◌, append-nil, arith}
 use Rattle.std.proofs.lemmas.List.{drop_all, drop_more, length_push}
 use Rattle.formula.specs.declared.parts.Comparator.TheVariants.{Less}
 use Rattle.formula.specs.declared.parts.LimitName.TheVariants.{P}
@@ -7,7 +7,7 @@ use Rattle.formula.specs.declared.parts.Part.{Part}
 use Rattle.formula.specs.declared.parts.Part.TheVariants.{Comparison}
 use Rattle.formula.specs.Formulas.{parts_of}
 use Rattle.formula.specs.Orders.{Fits, reach}
-use Rattle.bench.specs.Settings.{fitted_from, fitted_part, onward}
+use Rattle.bench.specs.Settings.{fitted_from, onward}
 use Rattle.formula.proofs.Extends.{pushed}
 use Rattle.bench.proofs.Fitting.{follow, one_more, same_reach}
 use Rattle.bench.proofs.settings.fit_parts.Given as given

@@ -1,4 +1,4 @@
-use Rattle.std.proofs.Common.{◌≡◌, ◌+◌, true, false, [], ◌∷◌, drop, sym, refl, ◌∙◌, subst, inl}
+use Rattle.std.proofs.Common.{◌≡◌, ◌+◌, [], ◌∷◌, drop, sym, refl, ◌∙◌, subst, inl}
 use borrow.Author.Tests.{clash}
 use Rattle.domain.specs.Boxes.{sides_of}
 use Rattle.domain.specs.Covering.{Covered, In}

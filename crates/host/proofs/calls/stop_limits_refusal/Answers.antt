@@ -1,4 +1,4 @@
-use Rattle.std.proofs.Common.{◌≡◌, ◌+◌, ◌<◌, ◌≤◌, [], ◌∷◌, ◌++◌, length, drop, pos, codes, decimal, sym, refl, ap, ◌∙◌, subst, zero-add, arith, length-append, rules}
+use Rattle.std.proofs.Common.{◌≡◌, [], ◌∷◌, ◌++◌, length, drop, codes, refl, ap, ◌∙◌, subst, zero-add, arith, length-append, rules}
 use Rattle.std.proofs.lemmas.Int.{ints}
 use Rattle.listing.specs.Written.{Written}
 use Rattle.listing.proofs.Writing.{written_then}

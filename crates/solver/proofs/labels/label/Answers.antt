@@ -1,6 +1,6 @@
-use Rattle.std.proofs.Common.{◌≡◌, Ok, sym, refl, ap, ◌∙◌, subst, arith}
+use Rattle.std.proofs.Common.{Ok, sym, ap, ◌∙◌, arith}
 use Rattle.domain.specs.Added.{joined, met}
-use Rattle.solver.specs.Labels.{at, labelled, lists_in, Ends}
+use Rattle.solver.specs.Labels.{labelled, lists_in}
 use Rattle.domain.specs.Listed.{boxes_of}
 use Rattle.solver.specs.Steps.{span}
 use Rattle.solver.proofs.Labelling.{list_at, ends_by}

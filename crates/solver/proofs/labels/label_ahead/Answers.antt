@@ -1,6 +1,6 @@
-use Rattle.std.proofs.Common.{◌≡◌, ◌+◌, ◌<◌, ◌≤◌, max, length, Ok, sym, refl, ap, ◌∙◌, subst, arith}
+use Rattle.std.proofs.Common.{Ok, sym, ap, ◌∙◌, subst, arith}
 use Rattle.domain.specs.Added.{and_then, joined, met}
-use Rattle.solver.specs.Labels.{at, foreseen, lists_in, Ends}
+use Rattle.solver.specs.Labels.{foreseen, lists_in, Ends}
 use Rattle.domain.specs.Listed.{boxes_of}
 use Rattle.solver.specs.Steps.{outlook_span}
 use Rattle.solver.proofs.Labelling.{list_at, ends_by}

@@ -1,4 +1,4 @@
-use Rattle.std.proofs.Common.{◌≡◌, ◌+◌, ◌-◌, reverse, length, take, replicate, sym, refl, ap, ◌∙◌, arith, take_all, rules}
+use Rattle.std.proofs.Common.{◌≡◌, ◌+◌, ◌-◌, reverse, length, take, sym, refl, ap, ◌∙◌, arith, take_all}
 use Rattle.solver.specs.Signs.{handed_down}
 use Rattle.solver.proofs.Handing.{hand_on}
 use Rattle.solver.proofs.signs.signs_of.Goals as goal

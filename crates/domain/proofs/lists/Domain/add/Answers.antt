@@ -1,4 +1,4 @@
-use Rattle.std.proofs.Common.{◌≡◌, [], ◌∷◌, vec_items, vec_len, sym, ap, ◌∙◌, arith}
+use Rattle.std.proofs.Common.{vec_items, vec_len, sym, ap, ◌∙◌, arith}
 use borrow.Author.Tests.{false-ltb, true-ltb}
 use Rattle.std.proofs.lemmas.List.{map_push}
 use Rattle.domain.specs.Boxes.{sides_of}

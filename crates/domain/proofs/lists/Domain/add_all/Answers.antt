@@ -1,4 +1,4 @@
-use Rattle.std.proofs.Common.{◌≡◌, sym, refl, ap, ◌∙◌}
+use Rattle.std.proofs.Common.{refl, ap, ◌∙◌}
 use Rattle.std.proofs.lemmas.Result.{err_from_is_err_and}
 use Rattle.domain.specs.Listed.{boxes_of, reached}
 use Rattle.domain.proofs.Growing.{boxes_at, boxes_end, join_stops, join_goes, join_ends}

@@ -1,6 +1,6 @@
 use Rattle.std.proofs.Common.{◌≡◌, ℕ, ◌+◌, true, false, ◌∷◌, ◌++◌, map, drop, is_err, Ok, Err, Result, sym, refl, ap, ◌∙◌, arith}
 use Rattle.domain.specs.declared.lists.Full.{Full}
-use Rattle.domain.specs.Added.{Boxes, added, joined, overlaps}
+use Rattle.domain.specs.Added.{joined, overlaps}
 use Rattle.domain.specs.Boxes.{overlap_box, sides_of}
 use Rattle.domain.specs.Listed.{boxes_of, reached}
 use Rattle.domain.proofs.Growing.{boxes_at, boxes_end, join_stops, join_goes, join_ends}

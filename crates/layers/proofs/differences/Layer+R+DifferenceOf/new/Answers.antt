@@ -1,4 +1,4 @@
-use Rattle.std.proofs.Common.{◌≡◌, ℕ, pos, sym, ap, ◌∙◌, subst}
+use Rattle.std.proofs.Common.{ℕ, pos, sym, ap, ◌∙◌, subst}
 use Rattle.scale.specs.Readings.{held}
 use Rattle.layers.specs.Differences.{DifferenceOver, difference_of}
 use Rattle.layers.specs.Layers.{layered}

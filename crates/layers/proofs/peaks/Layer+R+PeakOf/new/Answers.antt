@@ -1,5 +1,5 @@
-use Rattle.std.proofs.Common.{◌≡◌, ℕ, sym, ap, ◌∙◌, subst}
-use Rattle.layers.specs.Layers.{layered, told_by}
+use Rattle.std.proofs.Common.{ℕ, sym, ap, ◌∙◌, subst}
+use Rattle.layers.specs.Layers.{layered}
 use Rattle.layers.specs.Peaks.{peak_of, PeakOver}
 use Rattle.layers.proofs.Overlays.{told_next}
 use Rattle.layers.proofs.Peaking.{peak_over}

@@ -1,5 +1,3 @@
-use Rattle.std.proofs.Common.{sym, ap, ◌∙◌}
-use Rattle.layers.specs.Peaks.{later}
 use Rattle.layers.proofs.Peaking.{peak_more}
 use Rattle.layers.proofs.peaks.PeakOfWorking.work.Goals as goal
 

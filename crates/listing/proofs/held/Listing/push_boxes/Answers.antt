@@ -1,4 +1,4 @@
-use Rattle.std.proofs.Common.{◌≡◌, ◌+◌, drop, sym, refl, ap, ◌∙◌}
+use Rattle.std.proofs.Common.{◌+◌, drop, sym, refl, ap, ◌∙◌}
 use Rattle.domain.specs.Added.{Boxes}
 use Rattle.domain.specs.Listed.{sides_in}
 use Rattle.domain.proofs.Growing.{boxes_at, boxes_end}

@@ -1,4 +1,4 @@
-use Rattle.std.proofs.Common.{◌≡◌, false, set, is_err, Ok, Err, vec_items, Result, sym, refl, ap, ◌∙◌, subst}
+use Rattle.std.proofs.Common.{◌≡◌, set, Ok, vec_items, sym, refl, ap, ◌∙◌}
 use Rattle.std.proofs.lemmas.List.{map-set}
 use Rattle.solver.specs.Labels.{labelled, lists_in}
 use Rattle.domain.specs.Listed.{boxes_of}

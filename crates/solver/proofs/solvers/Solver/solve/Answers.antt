@@ -1,4 +1,4 @@
-use Rattle.std.proofs.Common.{◌≡◌, ℕ, ◌+◌, ◌-◌, ◌<◌, ◌≤◌, false, [], length, get_or, take, Ok, Err, vec_items, sym, refl, ap, ◌∙◌, subst, arith, false-eqb}
+use Rattle.std.proofs.Common.{◌≡◌, ◌+◌, ◌-◌, ◌<◌, [], length, take, Ok, vec_items, sym, refl, ap, ◌∙◌, arith, false-eqb}
 use Rattle.std.proofs.lemmas.List.{get_or-take}
 use Rattle.formula.specs.Formulas.{parts_of}
 use Rattle.solver.specs.declared.solvers.SolveFault.TheVariants.{Full}

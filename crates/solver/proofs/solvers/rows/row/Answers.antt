@@ -1,4 +1,4 @@
-use Rattle.std.proofs.Common.{◌≡◌, List, [], ◌∷◌, ◌++◌, replicate, vec_items, sym, ap, ◌∙◌, arith}
+use Rattle.std.proofs.Common.{List, [], ◌∷◌, ◌++◌, replicate, vec_items, ap, ◌∙◌, arith}
 use lib.ListN.{replicate-append-replicate}
 use Rattle.std.proofs.lemmas.List.{map_push}
 use Rattle.domain.specs.Added.{Boxes}
