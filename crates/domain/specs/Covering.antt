@@ -1,12 +1,12 @@
 -- Which choices of limits a list of boxes covers, and what adding, join and meet make of that. Assumes nothing.
 use Rattle.std.specs.Prelude.{◌≡◌, ℕ, ◌≤◌, ◌⊎◌, List, [], ◌∷◌, length, Ok}
-use Rattle.std.specs.List.{AllByRecursion as All}
+use Rattle.std.specs.List.{AllByRecursion}
 use Rattle.scale.specs.Cuts.{Between}
 use Rattle.domain.specs.Added.{Boxes, Sides, added, joined, met}
 
 -- each box has a side for each of n limits
 abbrev pub Wide : {S : Type 0} → ℕ → Boxes S → Type 0
-Wide n xs = All (λ b. length b ≡ n) xs
+Wide n xs = AllByRecursion (λ b. length b ≡ n) xs
 
 module _ {S : Type 0} (rank : S → ℕ) where
   -- the marks, one for each limit, lie in the box

@@ -1,6 +1,6 @@
 -- A listing that was made step by step is the listing, and it has room. Assumes nothing.
 use Rattle.std.proofs.Common.{◌≡◌, ℕ, ◌+◌, ◌*◌, ◌≤◌, Bool, true, false, List, [], ◌∷◌, ◌++◌, length, take, codes, decimal, sym, refl, ap, ◌∙◌, append_assoc, append-nil, arith, length-append, take_all}
-use Rattle.std.specs.List.{AllByRecursion as All}
+use Rattle.std.specs.List.{AllByRecursion}
 use Rattle.std.proofs.lemmas.Fmt.{length-decimal-le}
 use Rattle.scale.specs.declared.cuts.Cut.{Cut}
 use Rattle.scale.specs.declared.cuts.Cut.TheVariants.{LowerEnd, Below, Above, UpperEnd}
@@ -146,7 +146,7 @@ module _ {S : Type 0} (text : S → List ℕ) where
     uppers_short name (Above m) h = one_short name (codes "<=") m h (omega arith)
     uppers_short name UpperEnd h = omega arith
 
-    box_short : (ns : List (List ℕ)) (b : Sides S) → All (λ n. length n ≤ 1) ns → length (further (comparisons text ns b)) ≤ 40 * length ns
+    box_short : (ns : List (List ℕ)) (b : Sides S) → AllByRecursion (λ n. length n ≤ 1) ns → length (further (comparisons text ns b)) ≤ 40 * length ns
     box_short [] b h = omega arith
     box_short (n ∷ ns) [] h = omega arith
     box_short (n ∷ ns) (i ∷ b) h =

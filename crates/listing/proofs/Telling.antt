@@ -1,6 +1,6 @@
 -- A listing tells its boxes: it is read back line by line, comparison by comparison and cut by cut. Assumes nothing.
 use Rattle.std.proofs.Common.{◌≡◌, ℕ, suc, ◌+◌, ◌%◌, ◌^◌, ◌<◌, ◌≤◌, Bool, true, false, ◌||◌, List, [], ◌∷◌, ◌++◌, map, length, take, drop, codes, decimal, sym, refl, ap, ◌∙◌, subst, ⊎_elim, append_assoc, arith}
-use Rattle.std.specs.List.{AllByRecursion as All}
+use Rattle.std.specs.List.{AllByRecursion}
 use Rattle.std.proofs.lemmas.Fmt.{decimal_by_steps}
 use Rattle.std.proofs.ByRecursion.{All-append, All-push, All-weaker}
 use Rattle.std.proofs.lemmas.Bool.Decides.{nat_tests}
@@ -30,7 +30,7 @@ Stops P [] = Unit {0}
 Stops P (x ∷ xs) = P x → ⊥
 
 -- what is P in front of what stops is told from it
-split : {A : Type 0} (P : A → Type 0) (a b u v : List A) → All P a → All P b → Stops P u → Stops P v → a ++ u ≡ b ++ v → (a ≡ b) × (u ≡ v)
+split : {A : Type 0} (P : A → Type 0) (a b u v : List A) → AllByRecursion P a → AllByRecursion P b → Stops P u → Stops P v → a ++ u ≡ b ++ v → (a ≡ b) × (u ≡ v)
 split P [] [] u v p q s t e = (refl, e)
 split P [] (y ∷ b) [] v p q s t e = absurd (never e)
 split P [] (y ∷ b) (x ∷ u) v p q s t e = absurd (s (subst P (sym (head_of e)) q.0))
@@ -51,11 +51,11 @@ Inline b = 11 ≤ b
 run_plain : (b : ℕ) → RunByte b → Plain b
 run_plain b r = ⊎_elim (λ h. omega (arith, h.0)) (λ s. ⊎_elim (λ h. omega (arith, h.0)) (λ e. omega (arith, e)) s) r
 
-plain_inline : (x : List ℕ) → All Plain x → All Inline x
+plain_inline : (x : List ℕ) → AllByRecursion Plain x → AllByRecursion Inline x
 plain_inline x p = All-weaker Plain Inline (λ b h. omega (arith, h)) x p
 
-decimal_inline : (n : ℕ) → n < 2 ^ 64 → All Inline (decimal n)
-decimal_inline n h = decimal_by_steps (λ _ ds. All Inline ds) (λ k small. (omega arith, tt)) (λ k ds ten more. All-push Inline ds (48 + k % 10) more (omega arith)) n h
+decimal_inline : (n : ℕ) → n < 2 ^ 64 → AllByRecursion Inline (decimal n)
+decimal_inline n h = decimal_by_steps (λ _ ds. AllByRecursion Inline ds) (λ k small. (omega arith, tt)) (λ k ds ten more. All-push Inline ds (48 + k % 10) more (omega arith)) n h
 
 -- a comparison begins with a name, which is past the `a` of `any`
 abbrev First : List ℕ → Type 0
@@ -63,13 +63,13 @@ First [] = ⊥
 First (c ∷ x) = 98 ≤ c
 
 abbrev Piece : List ℕ → Type 0
-Piece x = First x × All Plain x
+Piece x = First x × AllByRecursion Plain x
 
 further_stops : (xs : List (List ℕ)) → Stops Plain (further xs)
 further_stops [] = tt
 further_stops (x ∷ xs) = λ h. omega (arith, h)
 
-further_same : (xs ys : List (List ℕ)) → All Piece xs → All Piece ys → further xs ≡ further ys → xs ≡ ys
+further_same : (xs ys : List (List ℕ)) → AllByRecursion Piece xs → AllByRecursion Piece ys → further xs ≡ further ys → xs ≡ ys
 further_same [] [] p q e = refl
 further_same [] (y ∷ ys) p q e = absurd (never e)
 further_same (x ∷ xs) [] p q e = absurd (never (sym e))
@@ -79,7 +79,7 @@ further_same (x ∷ xs) (y ∷ ys) p q e =
     let others = further_same xs ys p.1 q.1 s.1 in
     cc
 
-joined_same : (xs ys : List (List ℕ)) → All Piece xs → All Piece ys → joined xs ≡ joined ys → xs ≡ ys
+joined_same : (xs ys : List (List ℕ)) → AllByRecursion Piece xs → AllByRecursion Piece ys → joined xs ≡ joined ys → xs ≡ ys
 joined_same [] [] p q e = refl
 joined_same [] ([] ∷ ys) p q e = absurd q.0.0
 joined_same [] ((c ∷ y) ∷ ys) p q e = absurd (omega (arith, head_of e, q.0.0))
@@ -91,11 +91,11 @@ joined_same (x ∷ xs) (y ∷ ys) p q e =
     let others = further_same xs ys p.1 q.1 s.1 in
     cc
 
-further_inline : (xs : List (List ℕ)) → All Piece xs → All Inline (further xs)
+further_inline : (xs : List (List ℕ)) → AllByRecursion Piece xs → AllByRecursion Inline (further xs)
 further_inline [] p = tt
 further_inline (x ∷ xs) p = (omega arith, All-append Inline x (further xs) (plain_inline x p.0.1) (further_inline xs p.1))
 
-joined_inline : (xs : List (List ℕ)) → All Piece xs → All Inline (joined xs)
+joined_inline : (xs : List (List ℕ)) → AllByRecursion Piece xs → AllByRecursion Inline (joined xs)
 joined_inline [] p = (omega arith, (omega arith, (omega arith, tt)))
 joined_inline (x ∷ xs) p = All-append Inline x (further xs) (plain_inline x p.0.1) (further_inline xs p.1)
 
@@ -127,25 +127,25 @@ single c = c ∷ []
 
 abbrev Distinct : List ℕ → Type 0
 Distinct [] = Unit {0}
-Distinct (c ∷ cs) = All (λ d. d ≡ c → ⊥) cs × Distinct cs
+Distinct (c ∷ cs) = AllByRecursion (λ d. d ≡ c → ⊥) cs × Distinct cs
 
 module _ {S : Type 0} (rank : S → ℕ) (text : S → List ℕ) (fit : (m : S) → rank m < 2 ^ 32) (run : (m : S) → RunText (text m)) (apart : Apart text) where
-  piece : (c : ℕ) (sign : List ℕ) (m : S) → 98 ≤ c → All Plain sign → Piece (comparison text (single c) sign m)
+  piece : (c : ℕ) (sign : List ℕ) (m : S) → 98 ≤ c → AllByRecursion Plain sign → Piece (comparison text (single c) sign m)
   piece c sign m h p = (h, (omega arith, All-append Plain sign (text m) p (All-weaker RunByte Plain run_plain (text m) (run m).runs)))
 
-  lower_pieces : (c : ℕ) (l : Cut S) → 98 ≤ c → All Piece (lowers text (single c) l)
+  lower_pieces : (c : ℕ) (l : Cut S) → 98 ≤ c → AllByRecursion Piece (lowers text (single c) l)
   lower_pieces c LowerEnd h = tt
   lower_pieces c (Below m) h = (piece c (codes ">=") m h (omega arith, (omega arith, tt)), tt)
   lower_pieces c (Above m) h = (piece c (codes ">") m h (omega arith, tt), tt)
   lower_pieces c UpperEnd h = tt
 
-  upper_pieces : (c : ℕ) (u : Cut S) → 98 ≤ c → All Piece (uppers text (single c) u)
+  upper_pieces : (c : ℕ) (u : Cut S) → 98 ≤ c → AllByRecursion Piece (uppers text (single c) u)
   upper_pieces c LowerEnd h = tt
   upper_pieces c (Below m) h = (piece c (codes "<") m h (omega arith, tt), tt)
   upper_pieces c (Above m) h = (piece c (codes "<=") m h (omega arith, (omega arith, tt)), tt)
   upper_pieces c UpperEnd h = tt
 
-  all_pieces : (cs : List ℕ) (b : Sides S) → All (λ c. 98 ≤ c) cs → All Piece (comparisons text (map single cs) b)
+  all_pieces : (cs : List ℕ) (b : Sides S) → AllByRecursion (λ c. 98 ≤ c) cs → AllByRecursion Piece (comparisons text (map single cs) b)
   all_pieces [] b h = tt
   all_pieces (c ∷ cs) [] h = tt
   all_pieces (c ∷ cs) (i ∷ b) h =
@@ -166,7 +166,7 @@ module _ {S : Type 0} (rank : S → ℕ) (text : S → List ℕ) (fit : (m : S) 
   lowers_other d c (Above m) xs ne s = λ h. ne (head_of h)
   lowers_other d c UpperEnd xs ne s = s
 
-  others_stop : (d : ℕ) (cs : List ℕ) (b : Sides S) → All (λ c. c ≡ d → ⊥) cs → Stops (Starts d) (comparisons text (map single cs) b)
+  others_stop : (d : ℕ) (cs : List ℕ) (b : Sides S) → AllByRecursion (λ c. c ≡ d → ⊥) cs → Stops (Starts d) (comparisons text (map single cs) b)
   others_stop d [] b h = tt
   others_stop d (c ∷ cs) [] h = tt
   others_stop d (c ∷ cs) (i ∷ b) h =
@@ -180,13 +180,13 @@ module _ {S : Type 0} (rank : S → ℕ) (text : S → List ℕ) (fit : (m : S) 
   upper_stops c (Above m) xs s = λ h. omega (arith, head_of (rest_of h))
   upper_stops c UpperEnd xs s = lower_stops c xs s
 
-  lowers_start : (c : ℕ) (l : Cut S) → All (LowerOf c) (lowers text (single c) l)
+  lowers_start : (c : ℕ) (l : Cut S) → AllByRecursion (LowerOf c) (lowers text (single c) l)
   lowers_start c LowerEnd = tt
   lowers_start c (Below m) = (refl, tt)
   lowers_start c (Above m) = (refl, tt)
   lowers_start c UpperEnd = tt
 
-  uppers_start : (c : ℕ) (u : Cut S) → All (Starts c) (uppers text (single c) u)
+  uppers_start : (c : ℕ) (u : Cut S) → AllByRecursion (Starts c) (uppers text (single c) u)
   uppers_start c LowerEnd = tt
   uppers_start c (Below m) = (refl, tt)
   uppers_start c (Above m) = (refl, tt)
@@ -194,7 +194,7 @@ module _ {S : Type 0} (rank : S → ℕ) (text : S → List ℕ) (fit : (m : S) 
 
   -- no text goes on with the second byte of `>=` and `<=`
   no_sign : (m n : S) → 61 ∷ text m ≡ text n → ⊥
-  no_sign m n e = no_equals (subst (All RunByte) (sym e) (run n).runs).0
+  no_sign m n e = no_equals (subst (AllByRecursion RunByte) (sym e) (run n).runs).0
 
   lower_same : (c : ℕ) (k l : Cut S) → (k ≡ UpperEnd → ⊥) → (l ≡ UpperEnd → ⊥) → lowers text (single c) k ≡ lowers text (single c) l → k ≡ l
   lower_same c UpperEnd l p q e = absurd (p refl)
@@ -264,7 +264,7 @@ module _ {S : Type 0} (rank : S → ℕ) (text : S → List ℕ) (fit : (m : S) 
   abbrev limits : List ℕ
   limits = 112 ∷ 113 ∷ 114 ∷ []
 
-  box_pieces : (b : Sides S) → All Piece (comparisons text names b)
+  box_pieces : (b : Sides S) → AllByRecursion Piece (comparisons text names b)
   box_pieces b = all_pieces limits b (omega arith, (omega arith, (omega arith, tt)))
 
   distinct : Distinct limits
@@ -273,7 +273,7 @@ module _ {S : Type 0} (rank : S → ℕ) (text : S → List ℕ) (fit : (m : S) 
   line_split : (b : Sides S) (z : List ℕ) → line text b ++ z ≡ joined (comparisons text names b) ++ (10 ∷ z)
   line_split b z = append_assoc (joined (comparisons text names b)) (codes "\n") z
 
-  lines_same : (xs ys : Boxes S) → All (λ b. length b ≡ 3) xs → All (λ b. length b ≡ 3) ys → All (λ b. empty_box rank b ≡ false) xs → All (λ b. empty_box rank b ≡ false) ys → lines text xs ≡ lines text ys → xs ≡ ys
+  lines_same : (xs ys : Boxes S) → AllByRecursion (λ b. length b ≡ 3) xs → AllByRecursion (λ b. length b ≡ 3) ys → AllByRecursion (λ b. empty_box rank b ≡ false) xs → AllByRecursion (λ b. empty_box rank b ≡ false) ys → lines text xs ≡ lines text ys → xs ≡ ys
   lines_same [] [] m n p q e = refl
   lines_same [] (b ∷ ys) m n p q e =
       let j = joined (comparisons text names b) in

@@ -1,6 +1,6 @@
 -- A text says one formula at most.
 use Rattle.std.proofs.Common.{◌≡◌, ℕ, List, [], ◌∷◌, ◌++◌, sym, refl, ap, ◌∙◌, arith}
-use Rattle.std.specs.List.{AllByRecursion as All}
+use Rattle.std.specs.List.{AllByRecursion}
 use Rattle.scale.specs.Marks.{Apart, RunByte, RunText}
 use Rattle.formula.specs.declared.parts.LimitName.{LimitName}
 use Rattle.formula.specs.declared.parts.Operand.{Operand}
@@ -27,7 +27,7 @@ module _ {S : Type 0} (code : S → ℕ) (written : S → List ℕ) where
       ap (λ (x : List ℕ). 40 ∷ (x ++ (41 ∷ (binary_text op ++ (40 ∷ (spelled_out (map_tree written r) ++ (41 ∷ []))))))) (written_out l)
       ∙ ap (λ (x : List ℕ). 40 ∷ (spelling written l ++ (41 ∷ (binary_text op ++ (40 ∷ (x ++ (41 ∷ []))))))) (written_out r)
 
-  all_runny : (x : List ℕ) → All RunByte x → Runny x
+  all_runny : (x : List ℕ) → AllByRecursion RunByte x → Runny x
   all_runny [] h = tt
   all_runny (b ∷ x) h = (h.0, all_runny x h.1)
 

@@ -1,6 +1,6 @@
 -- What the marks of a scale have in common. Assumes nothing.
 use Rattle.std.specs.Prelude.{◌≡◌, ℕ, ◌≤◌, ◌⊎◌, List, length, Some, Option}
-use Rattle.std.specs.List.{AllByRecursion as All}
+use Rattle.std.specs.List.{AllByRecursion}
 
 -- no two marks share what f says of them
 abbrev pub Apart : {S B : Type 0} → (S → B) → Type 0
@@ -19,4 +19,4 @@ RunByte b = ((97 ≤ b) × (b ≤ 122)) ⊎ (((48 ≤ b) × (b ≤ 57)) ⊎ (b �
 pub record RunText (bytes : List ℕ) : Type 0 where
   pub some : 1 ≤ length bytes
   pub short : length bytes ≤ 16
-  pub runs : All RunByte bytes
+  pub runs : AllByRecursion RunByte bytes

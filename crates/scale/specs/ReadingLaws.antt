@@ -6,7 +6,7 @@ use Rattle.std.proofs.Math.Bridge.{le_prop}
 use Rattle.std.specs.Int.Signed.{mag}
 use Rattle.std.specs.Int.{w32}
 use Rattle.std.specs.Fmt.{signed_decimal}
-use Rattle.std.specs.List.{AllByRecursion as All}
+use Rattle.std.specs.List.{AllByRecursion}
 use Rattle.std.proofs.lemmas.Fmt.{signed_decimal_injective, decimal_nonempty, length_signed_le, decimal_by_steps}
 use Rattle.std.proofs.ByRecursion.{All-push}
 use Rattle.std.proofs.lemmas.Bool.Decides.{nat_tests}
@@ -71,9 +71,9 @@ reading_codes_name = record {
 digit_byte : (n : ℕ) → n < 10 → RunByte (48 + n)
 digit_byte n h = inr (inl (omega arith, omega arith))
 
-digit_bytes : (n : ℕ) → n < 2 ^ 64 → All RunByte (decimal n)
+digit_bytes : (n : ℕ) → n < 2 ^ 64 → AllByRecursion RunByte (decimal n)
 digit_bytes n h =
-    decimal_by_steps (λ _ ds. All RunByte ds) (λ n h. (digit_byte n h, tt)) (λ n ds ten more. All-push RunByte ds (48 + n % 10) more (digit_byte (n % 10) (omega arith))) n h
+    decimal_by_steps (λ _ ds. AllByRecursion RunByte ds) (λ n h. (digit_byte n h, tt)) (λ n ds ten more. All-push RunByte ds (48 + n % 10) more (digit_byte (n % 10) (omega arith))) n h
 
 run_text : (z : ℤ) → mag z < 2 ^ 31 → RunText (signed_decimal z)
 run_text (pos n) h = record {
