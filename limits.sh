@@ -6,9 +6,9 @@ top=$(cd "$(dirname "$0")" && pwd)
 folder=$(cd "${1:-$top/crates/limits/data}" && pwd)
 build=$(mktemp)
 trap 'rm -f "$build"' EXIT
-if ! (cd "$top" && rt check limits) > "$build" 2>&1; then
+if ! (cd "$top/crates/limits" && rt run) > "$build" 2>&1; then
     cat "$build" >&2
     exit 1
 fi
 cd "$folder"
-"$top/target/bin/limits"
+"$top/crates/limits/out/limits"

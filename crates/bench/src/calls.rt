@@ -1,5 +1,5 @@
 // The calls of a bench.
-ghost use Rattle.std.specs.Prelude.{◌≡◌, [], IfOk, None};
+ghost use Rattle.std.specs.Prelude.{◌≡◌, ◌≤◌, [], length, IfOk, None, OnErr};
 ghost use Rattle.formula.specs.Formulas.{parts_of};
 ghost use Rattle.domain.specs.Listed.{boxes_of};
 ghost use Rattle.rule.specs.Rules.{rule_parts};
@@ -94,7 +94,9 @@ impl<R: Recording> Bench<R> {
 
     // Writes the listing of the solve that stands to the front of the output, and answers its length.
     pub fn print(&self, output: &mut [u8]) -> Result<usize, BenchFault>
-        ensures { Prints R.Mark.text result self.now.solved (boxes_of self.now.standing) output.old output.new }
+        ensures prints { Prints R.Mark.text result self.now.solved (boxes_of self.now.standing) output.old output.new }
+        ensures bound { IfOk result (λ n. n ≤ length output.old) }
+        ensures refused { OnErr result (output.new ≡ output.old) }
     {
         if self.solved.is_none() {
             return Err(BenchFault::Unsolved);
