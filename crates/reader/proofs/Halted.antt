@@ -1,16 +1,16 @@
 -- What a reading that halts says of the text: where it can find fault, and that no formula stands there.
-use Rattle.std.proofs.Common.{◌≡◌, ℕ, ◌+◌, ◌-◌, ◌<◌, ◌≤◌, true, cond, ◌⊎◌, List, [], ◌∷◌, ◌++◌, length, get_or, IfErr, OnErr, Ok, Err, Result, sym, refl, ap, ◌∙◌, subst, inl, inr, ⊎_elim, append_assoc, append-nil, arith, length-append, length-drop}
+use Rattle.std.proofs.Common.{◌≡◌, ℕ, ◌+◌, ◌-◌, ◌<◌, ◌≤◌, true, cond, ◌⊎◌, List, [], ◌∷◌, ◌++◌, length, get_or, drop, IfErr, OnErr, Ok, Err, Result, sym, refl, ap, ◌∙◌, subst, inl, inr, ⊎_elim, append_assoc, append-nil, zero-le, arith, length-append, length-drop}
 use Rattle.std.proofs.lemmas.List.{get_or-drop, get_or_at}
 use Rattle.formula.specs.Trees.{Tree, depth, size}
 use Rattle.text.specs.declared.faults.TextFault.{TextFault}
 use Rattle.text.specs.declared.faults.TextFault.TheVariants.{Length, Form, Brackets, Parts, Scale}
 use Rattle.text.specs.Faults.{Blames}
 use Rattle.reader.specs.declared.readers.Cursor.{Cursor}
-use Rattle.reader.specs.Blame.{Begun}
+use Rattle.reader.specs.Blame.{Begun, Unspelled}
 use Rattle.reader.specs.Counts.{meets, met_in}
 use Rattle.reader.specs.Cursors.{HalfRead, NoneBegins, NoneLeft, NoOperator, Operatorless, rest}
-use Rattle.reader.specs.Fronts.{Ends, NoFormula, NoWhole, ProperTree, spelled_out}
-use Rattle.reader.specs.Halts.{Fails, first_only, halt, Halts, last_of, leaves, left_by, Within}
+use Rattle.reader.specs.Fronts.{Ends, NoFormula, NoFront, NoWhole, ProperTree, spelled_out}
+use Rattle.reader.specs.Halts.{Fails, first_only, Found, halt, Halts, last_of, leaves, left_by, Within}
 use Rattle.reader.specs.Spellings.{first_of}
 use Rattle.reader.proofs.Alike.{alike_ends}
 use Rattle.reader.proofs.Between.{begun, no_arrow}
@@ -21,28 +21,30 @@ use Rattle.reader.proofs.Unsaid.{ends_nothing}
 use Rattle.reader.proofs.Walks.{clear_tree}
 use Rattle.reader.proofs.Words.{first, others}
 
--- where the reading of a formula can find fault
-halts_length : (a : Cursor) (left : ℕ) (e : TextFault) (h : Halts a left e) → halt e + length h.after ≡ length a.text.now
-halts_length a left e h =
-    omega (arith, h.place, length-drop a.at a.text.now, ap length h.read, length-append h.done h.after, a.within)
+-- where a reading that began at a place can find fault
+found_blames : (None : List ℕ → Type 0) (left met place : ℕ) (text done after : List ℕ) (e : TextFault) → drop place text ≡ done ++ after → place ≤ length text → halt e ≡ place + length done → Found None left met done after e → Blames text e
+found_blames None left met place text done after Length read within here f = f
+found_blames None left met place text done after (Form at) read within here f =
+    omega (arith, here, length-drop place text, ap length read, length-append done after, within)
+found_blames None left met place text done after (Brackets at) read within here f =
+    let next = first_some after 40 f.next in
+    let byte : get_or text (place + length done) 0 ≡ 40 =
+    sym (get_or-drop place text (length done) 0)
+    ∙ (ap (λ (l : List ℕ). get_or l (length done) 0) (read ∙ ap (λ (l : List ℕ). done ++ l) next.1) ∙ get_or_at done 40 next.0 0 (length done) refl) in
+    (
+      omega (arith, here, length-drop place text, ap length read, length-append done after, within, ap length next.1),
+      ap (λ (n : ℕ). get_or text n 0) here ∙ byte,
+    )
+found_blames None left met place text done after (Parts at) read within here f =
+    let next = first_some after f.byte f.next in
+    omega (arith, here, length-drop place text, ap length read, length-append done after, within, ap length next.1)
+found_blames None left met place text done after (Scale fault) read within here f = f
 
 pub halts_blames : (a : Cursor) (left : ℕ) (e : TextFault) → Halts a left e → Blames a.text.now e
-halts_blames a left Length h = h.found
-halts_blames a left (Form at) h = omega (arith, halts_length a left (Form at) h)
-halts_blames a left (Brackets at) h =
-    let text = a.text.now in
-    let next = first_some h.after 40 h.found.next in
-    let here : get_or text (a.at + length h.done) 0 ≡ 40 =
-    sym (get_or-drop a.at text (length h.done) 0)
-    ∙ (ap (λ (l : List ℕ). get_or l (length h.done) 0) (h.read ∙ ap (λ (l : List ℕ). h.done ++ l) next.1) ∙ get_or_at h.done 40 next.0 0 (length h.done) refl) in
-    (
-      omega (arith, halts_length a left (Brackets at) h, ap length next.1),
-      ap (λ (n : ℕ). get_or text n 0) h.place ∙ here,
-    )
-halts_blames a left (Parts at) h =
-    let next = first_some h.after h.found.byte h.found.next in
-    omega (arith, halts_length a left (Parts at) h, ap length next.1)
-halts_blames a left (Scale fault) h = h.found
+halts_blames a left e h = found_blames NoFront left a.met a.at a.text.now h.done h.after e h.read a.within h.place h.found
+
+fails_blames : (text : List ℕ) (e : TextFault) → Fails text e → Blames text e
+fails_blames text e f = found_blames Unspelled 12 0 0 text f.done f.after e f.read zero-le (omega (arith, f.place)) f.found
 
 -- what fits allows the byte behind its first bytes
 within_at : (left met p : ℕ) (x : List ℕ) (b : ℕ) (y : List ℕ) → Within left met p (x ++ b ∷ y) → (b ≡ 40 → 0 < left_by left x) × (meets (last_of p x) b ≡ true → met + met_in p x < 24)
@@ -144,22 +146,6 @@ operatorless_missing c e f op after room is =
     ⊎_elim none_begins (λ g. ⊎_elim none_left half g) f
 
 -- a whole text was refused
-fails_blames : (text : List ℕ) (e : TextFault) → Fails text e → Blames text e
-fails_blames text Length f = f.found
-fails_blames text (Form at) f = omega (arith, f.place, ap length f.read, length-append f.done f.after)
-fails_blames text (Brackets at) f =
-    let next = first_some f.after 40 f.found.next in
-    let bytes = f.read ∙ ap (λ (l : List ℕ). f.done ++ l) next.1 in
-    (
-      omega (arith, f.place, ap length f.read, length-append f.done f.after, ap length next.1),
-      ap (λ (n : ℕ). get_or text n 0) f.place
-          ∙ (ap (λ (l : List ℕ). get_or l (length f.done) 0) bytes ∙ get_or_at f.done 40 next.0 0 (length f.done) refl),
-    )
-fails_blames text (Parts at) f =
-    let next = first_some f.after f.found.byte f.found.next in
-    omega (arith, f.place, ap length f.read, length-append f.done f.after, ap length next.1)
-fails_blames text (Scale fault) f = f.found
-
 pub record Failed {X : Type 0} (r : Result X TextFault) (text : List ℕ) : Type 0 where
   pub fails : IfErr r (Fails text)
   pub blames : IfErr r (Blames text)
