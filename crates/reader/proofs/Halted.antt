@@ -1,7 +1,7 @@
 -- What a reading that halts says of the text: where it can find fault, and that no formula stands there.
 use Rattle.std.proofs.Common.{◌≡◌, ℕ, ◌+◌, ◌-◌, ◌<◌, ◌≤◌, true, cond, ◌⊎◌, List, [], ◌∷◌, ◌++◌, length, get_or, drop, IfErr, OnErr, Ok, Err, Result, sym, refl, ap, ◌∙◌, subst, inl, inr, ⊎_elim, append_assoc, append-nil, zero-le, arith, length-append, length-drop}
 use Rattle.std.proofs.lemmas.List.{get_or-drop, get_or_at}
-use Rattle.formula.specs.Trees.{Tree, depth, size}
+use Rattle.formula.specs.Trees.{Tree}
 use Rattle.text.specs.declared.faults.TextFault.{TextFault}
 use Rattle.text.specs.declared.faults.TextFault.TheVariants.{Length, Form, Brackets, Parts, Scale}
 use Rattle.text.specs.Faults.{Blames}
@@ -30,8 +30,7 @@ found_blames None left met place text done after (Brackets at) read within here 
     let next = first_some after 40 f.next in
     let byte : get_or text (place + length done) 0 ≡ 40 =
     sym (get_or-drop place text (length done) 0)
-    ∙ (ap (λ (l : List ℕ). get_or l (length done) 0) (read ∙ ap (λ (l : List ℕ). done ++ l) next.1) ∙ get_or_at done 40 next.0 0 (length done) refl) in
-    (
+    ∙ (ap (λ (l : List ℕ). get_or l (length done) 0) (read ∙ ap (λ (l : List ℕ). done ++ l) next.1) ∙ get_or_at done 40 next.0 0 (length done) refl) in (
       omega (arith, here, length-drop place text, ap length read, length-append done after, within, ap length next.1),
       ap (λ (n : ℕ). get_or text n 0) here ∙ byte,
     )

@@ -1,5 +1,5 @@
 -- A text that has a fault is refused with it.
-use Rattle.std.proofs.Common.{◌≡◌, ℕ, ◌<◌, ◌≤◌, ◌⊎◌, List, length, sym, ap, inl, inr, ⊎_elim, arith}
+use Rattle.std.proofs.Common.{ℕ, ◌<◌, ◌≤◌, ◌⊎◌, List, length, sym, ap, inl, inr, ⊎_elim, arith}
 use Rattle.std.proofs.lemmas.Bool.{cases_lt}
 use Rattle.scale.specs.declared.faults.ScaleFault.TheVariants.{Unread, NoMark}
 use Rattle.text.specs.declared.faults.TextFault.{TextFault}
