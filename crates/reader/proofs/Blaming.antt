@@ -56,7 +56,7 @@ take_past k [] y h = ap (λ (n : ℕ). take n y) (omega arith)
 take_past zero (b ∷ x) y h = absurd (omega arith)
 take_past (suc k) (b ∷ x) y h = ap (λ (l : List ℕ). b ∷ l) (take_past k x y (omega arith) ∙ ap (λ (n : ℕ). x ++ take n y) (omega arith))
 
-first_some : (x : List ℕ) (b : ℕ) → first_only x ≡ b ∷ [] → (u : List ℕ) × (x ≡ b ∷ u)
+pub first_some : (x : List ℕ) (b : ℕ) → first_only x ≡ b ∷ [] → (u : List ℕ) × (x ≡ b ∷ u)
 first_some [] b e = let z : ◌≡◌ {A = ℕ} 0 1 = cc in absurd (omega arith)
 first_some (d ∷ x) b e = (x, ap (λ (l : List ℕ). l ++ x) e)
 

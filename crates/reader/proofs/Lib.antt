@@ -9,6 +9,7 @@ pub mod Composed
 pub mod Drawing
 pub mod Ending
 pub mod Failing
+pub mod Halted
 pub mod Halting
 pub mod Missing
 pub mod Names
@@ -17,6 +18,7 @@ pub mod Once
 pub mod Only
 pub mod Passing
 pub mod Refused
+pub mod Refusing
 pub mod Stopping
 pub mod Stretches
 pub mod Telling

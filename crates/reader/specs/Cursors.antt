@@ -1,10 +1,10 @@
 -- How far a text has been read. Assumes nothing.
-use Rattle.std.specs.Prelude.{◌≡◌, ℕ, ◌+◌, ◌<◌, ◌≤◌, ◌⊎◌, List, [], ◌∷◌, ◌++◌, length, drop, slice_index}
+use Rattle.std.specs.Prelude.{◌≡◌, ℕ, ◌+◌, ◌<◌, ◌≤◌, ◌⊎◌, List, [], ◌∷◌, ◌++◌, length, drop, ◌≢◌, slice_index}
 use Rattle.formula.specs.declared.parts.BinaryOperator.{BinaryOperator}
 use Rattle.text.specs.declared.faults.TextFault.{TextFault}
 use Rattle.text.specs.declared.faults.TextFault.TheVariants.{Form, Parts}
 use Rattle.reader.specs.declared.readers.Cursor.{Cursor}
-use Rattle.reader.specs.Spellings.{first_of}
+use Rattle.reader.specs.Spellings.{binary_text, first_of}
 
 -- the bytes that are still to be read
 abbrev pub rest : Cursor → List ℕ
@@ -25,6 +25,10 @@ pub record Meets (before after : Cursor) : Type 0 where
   pub same : after.text ≡ before.text
   pub here : after.at ≡ before.at
   pub counts : after.met ≡ before.met + 1
+
+-- no operator between two operands is ahead that could still be counted
+abbrev pub NoOperator : Cursor → Type 0
+NoOperator c = (op : BinaryOperator) (after : List ℕ) → c.met < 24 → rest c ≢ binary_text op ++ after
 
 -- a decimal digit
 abbrev pub Digit : ℕ → Type 0

@@ -43,6 +43,10 @@ spelled_out t = spelling (λ x. x) t
 abbrev pub NoFront : List ℕ → Type 0
 NoFront bytes = (t : Tree (List ℕ)) (after : List ℕ) → ProperTree t → Ends t after → bytes ≢ spelled_out t ++ after
 
+-- no formula with at most so many brackets open at once and so many parts begins the bytes
+abbrev pub NoFormula : List ℕ → ℕ → ℕ → Type 0
+NoFormula bytes brackets parts = (t : Tree (List ℕ)) (after : List ℕ) → ProperTree t → depth t ≤ brackets → size t ≤ parts → Ends t after → bytes ≢ spelled_out t ++ after
+
 -- no formula that a rule can have is the whole text
 abbrev pub NoWhole : List ℕ → Type 0
 NoWhole text = (t : Tree (List ℕ)) → ProperTree t → depth t ≤ 12 → size t ≤ 24 → text ≢ spelled_out t

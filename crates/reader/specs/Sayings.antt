@@ -1,9 +1,16 @@
 -- What a text says as a rule. Assumes nothing.
-use Rattle.std.specs.Prelude.{◌≡◌, ℕ, ◌<◌, ◌≤◌, List, length}
+use Rattle.std.specs.Prelude.{◌≡◌, ℕ, ◌<◌, ◌≤◌, List, length, ◌≢◌}
 use Rattle.formula.specs.declared.parts.Operand.{Operand}
 use Rattle.formula.specs.declared.parts.Operand.TheVariants.{Limit, Channel, Constant}
 use Rattle.formula.specs.declared.parts.Part.{Part}
+use Rattle.scale.specs.declared.faults.ScaleFault.{ScaleFault}
+use Rattle.scale.specs.declared.faults.ScaleFault.TheVariants.{Unread}
+use Rattle.text.specs.declared.faults.TextFault.{TextFault}
+use Rattle.text.specs.declared.faults.TextFault.TheVariants.{Length, Form, Brackets, Parts, Scale}
+use Rattle.text.specs.Faults.{Blames}
+use Rattle.reader.specs.declared.readers.Run.{Run}
 use Rattle.reader.specs.Operands.{Unnamed}
+use Rattle.reader.specs.Runs.{bytes_in, IsRun}
 use Rattle.formula.specs.Trees.{Tree, compares, one, two, size, numbered, depth, map_tree}
 use Rattle.reader.specs.Written.{spelling}
 
@@ -44,3 +51,19 @@ module _ {S : Type 0} (code : S → ℕ) (written : S → List ℕ) where
   -- the text says nothing
   abbrev pub Unsaid : List ℕ → Type 0
   Unsaid text = (parts : List (Part ℕ)) → Says text parts → ⊥
+
+  -- a run of the text that names no limit and no channel, and that no mark is written as
+  pub record UnreadRun (text : List ℕ) (fault : ScaleFault) : Type 0 where
+    pub run : Run
+    pub blamed : fault ≡ Unread run.start
+    pub runs : IsRun text run
+    pub unnamed : Unnamed (bytes_in text run)
+    pub unwritten : (m : S) → written m ≢ bytes_in text run
+
+  -- a scale's fault blames such a run, and any other fault of a text of the right length is one of a plain reading
+  abbrev pub Refuses : List ℕ → TextFault → Type 0
+  Refuses text Length = Sized text → ⊥
+  Refuses text (Form at) = Sized text × Blames text (Form at)
+  Refuses text (Brackets at) = Sized text × Blames text (Brackets at)
+  Refuses text (Parts at) = Sized text × Blames text (Parts at)
+  Refuses text (Scale fault) = Sized text × UnreadRun text fault

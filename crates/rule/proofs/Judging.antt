@@ -14,12 +14,13 @@ use Rattle.text.specs.Faults.{text_number}
 use Rattle.reader.specs.Fronts.{NoWhole}
 use Rattle.reader.specs.Halts.{Fails, halt}
 use Rattle.reader.specs.Reads.{Spelt}
-use Rattle.reader.specs.Sayings.{Sized}
+use Rattle.reader.specs.Sayings.{Refuses, Sized}
 use Rattle.reader.specs.Runs.{bytes_in}
 use Rattle.reader.specs.Told.{operands_of, Tells, TellOf}
 use Rattle.reader.proofs.Absent.{front_proper, size_mapped}
 use Rattle.reader.proofs.Blaming.{blamed_plain, Late, late_refused, late_spelled, no_whole}
 use Rattle.reader.proofs.Only.{written_out}
+use Rattle.reader.proofs.Refusing.{blamed_refuses}
 use Rattle.rule.proofs.Unread.{all_coded, first_unread_run, told_coded}
 use Rattle.reader.proofs.Unsaid.{depth_mapped}
 
@@ -166,3 +167,13 @@ module _ {S : Type 0} (code : S → ℕ) (written : S → List ℕ) (text : List
   judged {X} (Err fault) form r draft out G M unread is told fails spelt f g h =
       subst (λ (x : Result X TextFault). MatchResult x (λ _. G × Faultless written text) (λ e. BlamedOnly written text e × M)) (sym is)
       (judged_unread form draft fault told fails spelt unread, h fault unread)
+
+-- what a result says of the text, and which fault it tells
+module _ {S : Type 0} (code : S → ℕ) (written : S → List ℕ) (text : List ℕ) where
+  pub record Apart {X : Type 0} (r : Result X TextFault) (G M : Type 0) : Type 0 where
+    pub cases : MatchResult r (λ _. G) (λ e. Refuses code written text e × M)
+    pub blamed : MatchResult r (λ _. Faultless written text) (λ e. BlamedOnly written text e)
+
+  pub apart : {X : Type 0} (r : Result X TextFault) (G M : Type 0) → MatchResult r (λ _. G × Faultless written text) (λ e. BlamedOnly written text e × M) → Apart r G M
+  apart (Ok x) G M h = record { cases = h.0; blamed = h.1 }
+  apart (Err e) G M h = record { cases = (blamed_refuses code written text e h.0, h.1); blamed = h.0 }

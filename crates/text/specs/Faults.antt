@@ -1,5 +1,5 @@
 -- The number, the place and the layer of each fault of a text. Assumes nothing.
-use Rattle.std.specs.Prelude.{ℕ, Some, None, Option}
+use Rattle.std.specs.Prelude.{◌≡◌, ℕ, ◌<◌, ◌≤◌, List, length, Some, None, Option, slice_index}
 use Rattle.scale.specs.Faults.{scale_number}
 use Rattle.scale.specs.declared.faults.Layer.{Layer}
 use Rattle.scale.specs.declared.faults.Layer.TheVariants.{Text, Scale as ScaleLayer}
@@ -36,3 +36,11 @@ text_layer (Form _) = Text
 text_layer (Brackets _) = Text
 text_layer (Parts _) = Text
 text_layer (Scale fault) = ScaleLayer
+
+-- where a plain reading can find fault with a text: at a byte or at the end, at an opening bracket, at a byte
+abbrev pub Blames : List ℕ → TextFault → Type 0
+Blames text Length = ⊥
+Blames text (Form at) = at ≤ length text
+Blames text (Brackets at) = (at < length text) × (slice_index text at ≡ 40)
+Blames text (Parts at) = at < length text
+Blames text (Scale fault) = ⊥

@@ -1,8 +1,10 @@
 // A comparison: a channel, a comparator and an operand.
-ghost use Rattle.std.specs.Prelude.{◌≡◌, ℕ, ◌<◌, ◌≤◌, [], ◌∷◌, length, IfOk, IfErr, MatchBool, MatchResult};
+ghost use Rattle.std.specs.Prelude.{◌≡◌, ℕ, ◌-◌, ◌<◌, ◌≤◌, [], ◌∷◌, length, IfOk, IfErr, MatchBool, MatchResult, OnErr};
 ghost use Rattle.scale.specs.Marks.{RunByte};
-ghost use Rattle.reader.specs.Cursors.{Ahead, Digit, Passes};
+ghost use Rattle.reader.specs.Cursors.{Ahead, Digit, Passes, rest};
+ghost use Rattle.text.specs.Faults.{Blames};
 ghost use Rattle.formula.specs.Formulas.{parts_of};
+ghost use Rattle.reader.specs.Fronts.{NoFormula};
 ghost use Rattle.reader.specs.Halts.{Halts};
 ghost use Rattle.reader.specs.Operands.{MeantBy};
 ghost use Rattle.reader.specs.Reads.{AllDrawn, Reads, Stands};
@@ -94,6 +96,8 @@ impl Cursor<'_> {
         requires ahead { Ahead self.old 99 }
         requires room { length (parts_of out.old) ≤ self.old.met }
         ensures drawn { AllDrawn self.old.text.now (parts_of out.old) → AllDrawn self.old.text.now (parts_of out.new) }
+        ensures blames { IfErr result (Blames self.old.text.now) }
+        ensures missing { OnErr result ((brackets : ℕ) → NoFormula (rest self.old) brackets (24 - self.old.met)) }
         ensures halts { IfErr result (λ e. (brackets : ℕ) → Halts self.old brackets e) }
         ensures told { ToldBy result self.old self.new.at (parts_of out.old) (parts_of out.new) }
         ensures read { IfOk result (Reads self.old self.new 0 (parts_of out.old) (parts_of out.new)) }

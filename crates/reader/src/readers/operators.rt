@@ -2,7 +2,8 @@
 ghost use Rattle.std.specs.Prelude.{◌≡◌, ◌+◌, ◌⊎◌, [], ◌∷◌, MatchOption, MatchResult, ◌≢◌};
 ghost use Rattle.formula.specs.declared.parts.BinaryOperator.{BinaryOperator};
 ghost use Rattle.formula.specs.declared.parts.UnaryOperator.{UnaryOperator};
-ghost use Rattle.reader.specs.Cursors.{Ahead, Operatorless, Passes};
+ghost use Rattle.reader.specs.Cursors.{Ahead, NoOperator, Operatorless, Passes};
+ghost use Rattle.text.specs.Faults.{Blames};
 ghost use Rattle.reader.specs.Spellings.{binary_text, first_of, unary_text};
 
 use crate::readers::Cursor;
@@ -39,7 +40,8 @@ fn begun_operator(byte: u8) -> Option<BinaryOperator>
 impl Cursor<'_> {
     // The operator between two operands, which is a part met at its first byte.
     pub fn binary_operator(&mut self) -> Result<BinaryOperator, TextFault>
-        ensures { MatchResult result (λ op. Passes self.old self.new (binary_text op) 1) (Operatorless self.old) }
+        ensures missing { MatchResult result (λ op. Passes self.old self.new (binary_text op) 1) (λ e. Blames self.old.text.now e × NoOperator self.old) }
+        ensures read { MatchResult result (λ op. Passes self.old self.new (binary_text op) 1) (Operatorless self.old) }
     {
         let Some(byte) = self.peek() else {
             return Err(self.misfit());

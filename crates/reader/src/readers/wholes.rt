@@ -1,6 +1,9 @@
 // Whole formulas and whole texts.
-ghost use Rattle.std.specs.Prelude.{◌≤◌, [], length, IfOk, IfErr, MatchResult, OnOk};
+ghost use Rattle.std.specs.Prelude.{◌-◌, ◌≤◌, [], length, IfOk, IfErr, MatchResult, OnErr, OnOk};
+ghost use Rattle.text.specs.Faults.{Blames};
+ghost use Rattle.reader.specs.Cursors.{rest};
 ghost use Rattle.formula.specs.Formulas.{parts_of};
+ghost use Rattle.reader.specs.Fronts.{NoFormula, NoWhole};
 ghost use Rattle.reader.specs.Halts.{Fails, halt, Halts};
 ghost use Rattle.reader.specs.Reads.{AllDrawn, Reads, Spelt};
 ghost use Rattle.reader.specs.Told.{Tells, ToldBy};
@@ -19,6 +22,8 @@ const MAX_BRACKETS: usize = 12;
 fn formula(cursor: &mut Cursor<'_>, left: usize, out: &mut Formula<Run>) -> Result<usize, TextFault>
     requires { length (parts_of out.old) ≤ cursor.old.met }
     ensures drawn { AllDrawn cursor.old.text.now (parts_of out.old) → AllDrawn cursor.old.text.now (parts_of out.new) }
+    ensures blames { IfErr result (Blames cursor.old.text.now) }
+    ensures missing { OnErr result (NoFormula (rest cursor.old) left (24 - cursor.old.met)) }
     ensures halts { IfErr result (Halts cursor.old left) }
     ensures told { ToldBy result cursor.old cursor.new.at (parts_of out.old) (parts_of out.new) }
     ensures read { IfOk result (Reads cursor.old cursor.new left (parts_of out.old) (parts_of out.new)) }
@@ -50,6 +55,8 @@ fn formula(cursor: &mut Cursor<'_>, left: usize, out: &mut Formula<Run>) -> Resu
 // Reads a whole text. The parts that were read stay in `out` also where the text is refused.
 pub fn read_text(text: &[u8], out: &mut Formula<Run>) -> Result<(), TextFault>
     ensures drawn { AllDrawn text.now (parts_of out.new) }
+    ensures blames { IfErr result (Blames text.now) }
+    ensures missing { OnErr result (NoWhole text.now) }
     ensures fails { IfErr result (Fails text.now) }
     ensures told { MatchResult result (λ _. Tells text.now 0 (length text.now) [] (parts_of out.new)) (λ e. Tells text.now 0 (halt e) [] (parts_of out.new)) }
     ensures read { OnOk result (Spelt text.now (parts_of out.new)) }

@@ -5,7 +5,7 @@ ghost use Rattle.reader.specs.Blame.{BlamedOnly, Faultless};
 ghost use Rattle.reader.specs.Codings.{AllCoded, FirstUnread};
 ghost use Rattle.reader.specs.Reads.{AllDrawn};
 ghost use Rattle.rule.specs.Rules.{rule_parts};
-ghost use Rattle.reader.specs.Sayings.{SaysOnly, Sized, Unsaid};
+ghost use Rattle.reader.specs.Sayings.{Refuses, SaysOnly, Sized, Unsaid};
 
 use crate::codings::code_parts;
 use crate::rules::Rule;
@@ -47,7 +47,8 @@ impl Rule {
 
     // Reads a text whose constants are marks of the scale `S`. A refused text leaves the rule as it was.
     pub fn read<S: Scale>(&mut self, text: &[u8]) -> Result<(), TextFault>
-        ensures { MatchResult result (λ _. SaysOnly S.code S.text text.now (rule_parts self.new) × Faultless S.text text.now) (λ e. BlamedOnly S.text text.now e × Unsaid S.code S.text text.now × (rule_parts self.new ≡ rule_parts self.old)) }
+        ensures said { MatchResult result (λ _. SaysOnly S.code S.text text.now (rule_parts self.new)) (λ e. Refuses S.code S.text text.now e × Unsaid S.code S.text text.now × (rule_parts self.new ≡ rule_parts self.old)) }
+        ensures blamed { MatchResult result (λ _. Faultless S.text text.now) (λ e. BlamedOnly S.text text.now e) }
     {
         if !has_length(text) {
             return Err(TextFault::Length);
@@ -61,7 +62,8 @@ impl Rule {
     fn prepare<S: Scale>(&mut self, text: &[u8]) -> Result<(), TextFault>
         requires { Sized text.now }
         ensures same { self.new.formula ≡ self.old.formula }
-        ensures cases { MatchResult result (λ _. SaysOnly S.code S.text text.now (parts_of self.new.fresh) × Faultless S.text text.now) (λ e. BlamedOnly S.text text.now e × Unsaid S.code S.text text.now) }
+        ensures cases { MatchResult result (λ _. SaysOnly S.code S.text text.now (parts_of self.new.fresh)) (λ e. Refuses S.code S.text text.now e × Unsaid S.code S.text text.now) }
+        ensures blamed { MatchResult result (λ _. Faultless S.text text.now) (λ e. BlamedOnly S.text text.now e) }
     {
         let form = read_text(text, &mut self.draft);
         let coded = self.code::<S>(text);

@@ -1,5 +1,6 @@
 use Rattle.formula.specs.Formulas.{parts_of}
-use Rattle.rule.proofs.Judging.{judged}
+use Rattle.reader.specs.Sayings.{SaysOnly, Unsaid}
+use Rattle.rule.proofs.Judging.{apart, judged}
 use Rattle.rule.proofs.Marking.{says}
 use Rattle.reader.proofs.Only.{says_only}
 use Rattle.reader.proofs.Unsaid.{unsaid_run, unsaid_whole}
@@ -13,14 +14,13 @@ returns g c =
     let draft = parts_of c.read_text-form.new.out in
     let form = c.read_text-form.ensures in
     let laws = g.met.S.Scale in
-    record {
-      same = c.code-coded.ensures.same;
-      cases =
-          judged code written text c.requires c.code-coded.result c.read_text-form.result c.earlier.result draft (parts_of c.code-coded.new.self.fresh) _ _
-          c.code-coded.ensures.cases c.earlier.ensures form.told form.fails form.read
-          (λ coded spelt.
-          says_only code written laws.texts_run laws.texts_apart text _
-          (says code written text draft (parts_of c.code-coded.new.self.fresh) c.requires.some c.requires.short spelt coded))
-          (unsaid_whole code written text laws.texts_run)
-          (λ fault unread. unsaid_run code written text laws.texts_run c.read_text-form.result draft fault form.read form.fails unread);
-    }
+    let told =
+    apart code written text c.earlier.result (SaysOnly code written text (parts_of c.code-coded.new.self.fresh)) (Unsaid code written text)
+    (judged code written text c.requires c.code-coded.result c.read_text-form.result c.earlier.result draft (parts_of c.code-coded.new.self.fresh) _ _
+    c.code-coded.ensures.cases c.earlier.ensures form.told form.fails form.read
+    (λ coded spelt.
+    says_only code written laws.texts_run laws.texts_apart text _
+    (says code written text draft (parts_of c.code-coded.new.self.fresh) c.requires.some c.requires.short spelt coded))
+    (unsaid_whole code written text laws.texts_run)
+    (λ fault unread. unsaid_run code written text laws.texts_run c.read_text-form.result draft fault form.read form.fails unread)) in
+    record { same = c.code-coded.ensures.same; cases = told.cases; blamed = told.blamed }

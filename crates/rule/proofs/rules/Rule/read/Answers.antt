@@ -9,16 +9,19 @@ use Rattle.rule.proofs.rules.Rule.read.Goals as goal
 
 pub returns : goal.returns
 returns g c =
-    let prepared = c.in_ok-prepare.ensures.cases in
-    (subst (λ (x : Formula ℕ). SaysOnly g.S.Scale.code g.S.Scale.text c.args.text.now (parts_of x)) (sym c.swap.ensures.x_after) prepared.0, prepared.1)
+    let prepared = c.in_ok-prepare.ensures in
+    record {
+      said = subst (λ (x : Formula ℕ). SaysOnly g.S.Scale.code g.S.Scale.text c.args.text.now (parts_of x)) (sym c.swap.ensures.x_after) prepared.cases;
+      blamed = prepared.blamed;
+    }
 
 pub returns-then-not-has_length : goal.returns-then-not-has_length
 returns-then-not-has_length g c =
     let text = c.args.text.now in
     let none : Sized text → ⊥ = search rules in
-    (blamed_length g.S.Scale.text text none, λ parts s. none s.sized, refl)
+    record { said = (none, λ parts s. none s.sized, refl); blamed = blamed_length g.S.Scale.text text none }
 
 pub invariant_of-self : goal.invariant_of-self
 invariant_of-self g c =
-    let said = c.in_ok-prepare.ensures.cases.0.says in
+    let said = c.in_ok-prepare.ensures.cases.says in
     record { whole = tree_whole (map_tree g.S.Scale.code said.formula) (parts_of c.swap.new.x) (ap parts_of c.swap.ensures.x_after ∙ said.listed) }
