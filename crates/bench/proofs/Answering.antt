@@ -21,7 +21,7 @@ use Rattle.scale.specs.declared.scales.Scale.{Ghosts as ScaleGhosts}
 use Rattle.bench.specs.declared.benches.Bench.{Bench}
 use Rattle.bench.specs.declared.faults.BenchFault.{BenchFault}
 use Rattle.bench.specs.Asks.{Asks, Finds, three_named}
-use Rattle.bench.specs.Laws.{AskLaw, AskedOf, FindLaw, FindRight, FoundOf, Solved}
+use Rattle.bench.specs.Laws.{AskLaw, AskedOf, FindLaw, FindRight, FoundOf, IfSolved}
 use Rattle.bench.specs.Views.{Fresh, TrueAt, limits_of, parts_in_force}
 
 -- a formula has few parts, by its type
@@ -37,7 +37,7 @@ module _ {S : Type 0} (rank : S → ℕ) (fits : (m : S) → rank m < 2 ^ 32) wh
   covers_truth m None point list ordered few fresh limits = absurd fresh
   covers_truth m (Some t) point list ordered few fresh limits = derived_true rank fits m.mark m.points limits (numbered 0 t) ordered t point list refl few fresh.0 fresh.1
 
-  ask_of : (m : Meaning S) (rule : Option (Tree S)) (solved : Option ℕ) (list : Boxes S) → Ordered (parts_in_force rule) → length (parts_in_force rule) ≤ 24 → Fresh rank m rule solved list → (p q r : Option S) (answer : Result Bool BenchFault) → Asks rank solved list (behind p (behind q (behind r (Some [])))) answer → Solved rank solved answer (AskedOf rank (record { told = m; rule = rule; solved = solved }) p q r answer)
+  ask_of : (m : Meaning S) (rule : Option (Tree S)) (solved : Option ℕ) (list : Boxes S) → Ordered (parts_in_force rule) → length (parts_in_force rule) ≤ 24 → Fresh rank m rule solved list → (p q r : Option S) (answer : Result Bool BenchFault) → Asks rank solved list (behind p (behind q (behind r (Some [])))) answer → IfSolved rank solved answer (AskedOf rank (record { told = m; rule = rule; solved = solved }) p q r answer)
   ask_of m rule None list ordered few fresh p q r answer h = h
   ask_of m rule (Some point) list ordered few fresh None q r answer h = h
   ask_of m rule (Some point) list ordered few fresh (Some p) None r answer h = h

@@ -29,12 +29,12 @@ module _ {S : Type 0} (rank : S → ℕ) where
   AskedOf v (Some p) (Some q) None answer = answer ≡ Err no_mark
 
   -- without a solve every question is refused
-  abbrev pub Solved : Option ℕ → {X : Type 0} → Result X BenchFault → Type 0 → Type 0
-  Solved None answer A = answer ≡ Err Unsolved
-  Solved (Some point) answer A = A
+  abbrev pub IfSolved : Option ℕ → {X : Type 0} → Result X BenchFault → Type 0 → Type 0
+  IfSolved None answer A = answer ≡ Err Unsolved
+  IfSolved (Some point) answer A = A
 
   abbrev pub AskRight : (ℕ → Option S) → View S → ℕ → ℕ → ℕ → Result Bool BenchFault → Type 0
-  AskRight named v p q r answer = Solved v.solved answer (AskedOf v (named p) (named q) (named r) answer)
+  AskRight named v p q r answer = IfSolved v.solved answer (AskedOf v (named p) (named q) (named r) answer)
 
   -- for every view that the bench stands for
   abbrev pub AskLaw : {R : Type 0} {telling : RecordingGhosts R S} {scale : ScaleGhosts S} → (R → Meaning S) → (ℕ → Option S) → Bench R S telling scale → ℕ → ℕ → ℕ → Result Bool BenchFault → Type 0
@@ -46,7 +46,7 @@ module _ {S : Type 0} (rank : S → ℕ) where
   FoundOf code v (Some (p, q, r)) = (limits : LimitName → S) × (code (limits P) ≡ p) × (code (limits Q) ≡ q) × (code (limits R) ≡ r) × TrueNow rank v limits
 
   abbrev pub FindRight : (S → ℕ) → View S → Result (Option (ℕ × ℕ × ℕ)) BenchFault → Type 0
-  FindRight code v answer = Solved v.solved answer ((codes : Option (ℕ × ℕ × ℕ)) × (answer ≡ Ok codes) × FoundOf code v codes)
+  FindRight code v answer = IfSolved v.solved answer ((codes : Option (ℕ × ℕ × ℕ)) × (answer ≡ Ok codes) × FoundOf code v codes)
 
   abbrev pub FindLaw : {R : Type 0} {telling : RecordingGhosts R S} {scale : ScaleGhosts S} → (R → Meaning S) → (S → ℕ) → Bench R S telling scale → Result (Option (ℕ × ℕ × ℕ)) BenchFault → Type 0
   FindLaw meaning code b answer = (v : View S) → Agrees rank meaning v b → FindRight code v answer

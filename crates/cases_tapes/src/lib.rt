@@ -8,7 +8,7 @@ mod tests {
     use rows::{Row, RowTape};
     use scale::{Reading, Scale, Stage};
     use std::alloc::{AllocError, Global};
-    use std::process::Abort;
+    use std::fmt::Debug;
     use std::test::Fail;
 
     const FAR: usize = 9_223_372_036_854_775_808;
@@ -146,28 +146,39 @@ mod tests {
         Peak::new(Peak::new(Peak::new(below, 0), usize::MAX), c)
     }
 
-    fn with_sixteen<R: Tape<Mark = Reading> + Drop>(rt: &impl Abort, full: R) {
-        assert_eq!(rt; full.channels(), 16);
-        assert_eq!(rt; reads(&full, 14), (0, 0, 0));
-        assert_eq!(rt; reads(&full, 15), (3, 7, 7));
-        let mut over = Difference::new(Peak::new(full, 0), 0);
-        assert_eq!(rt; over.channels(), 16);
-        assert_eq!(rt; reads(&over, 15), (3, 7, 7));
-        assert_eq!(rt; reads(&over, 16), (0, 0, 0));
-        assert!(rt; over.is_given(3) && !over.is_given(4) && !over.is_given(16));
-        assert_eq!(rt; number(over.amend(0, 16, Reading::new(1))), 6);
-        assert_eq!(rt; number(over.amend(0, 15, Reading::new(1))), 9);
+    // Fails with two values that are not the same.
+    fn same<T: PartialEq + Debug + Drop>(is: T, wanted: T) -> Result<(), Fail> {
+        if is == wanted {
+            Ok(())
+        } else {
+            Err(Fail::new(format_args!("{is:?} is not {wanted:?}")))
+        }
     }
 
-    fn with_ten<R: Tape<Mark = Reading> + Drop>(rt: &impl Abort, below: R) {
-        assert_eq!(rt; below.channels(), 10);
-        with_sixteen(rt, three(three(below, 9), 12));
+    fn with_sixteen<R: Tape<Mark = Reading> + Drop>(full: R) -> Result<(), Fail> {
+        same(full.channels(), 16)?;
+        same(reads(&full, 14), (0, 0, 0))?;
+        same(reads(&full, 15), (3, 7, 7))?;
+        let mut over = Difference::new(Peak::new(full, 0), 0);
+        same(over.channels(), 16)?;
+        same(reads(&over, 15), (3, 7, 7))?;
+        same(reads(&over, 16), (0, 0, 0))?;
+        same(
+            (over.is_given(3), over.is_given(4), over.is_given(16)),
+            (true, false, false),
+        )?;
+        same(number(over.amend(0, 16, Reading::new(1))), 6)?;
+        same(number(over.amend(0, 15, Reading::new(1))), 9)
+    }
+
+    fn with_ten<R: Tape<Mark = Reading> + Drop>(below: R) -> Result<(), Fail> {
+        same(below.channels(), 10)?;
+        with_sixteen(three(three(below, 9), 12))
     }
 
     #[test]
     fn sixteen_channels(rt: HostRuntime) -> Result<(), Fail> {
-        with_ten(&rt, three(three(tape_of(rt.alloc(), &[3, 7, 5])?, 0), 6));
-        Ok(())
+        with_ten(three(three(tape_of(rt.alloc(), &[3, 7, 5])?, 0), 6))
     }
 
     #[test]

@@ -3,7 +3,6 @@ ghost use Rattle.std.specs.Prelude.{◌≤◌};
 
 use rule::Rule;
 use scale::{Reading, Scale, ScaleFault};
-use std::process::Abort;
 use std::test::Fail;
 use text::TextFault;
 
@@ -185,42 +184,48 @@ const DEEP: [u8; 49] = *b"X(X(X(X(X(X(X(X(X(X(X((c0<p)U(X(c1>7)))))))))))))";
 const LARGE: [u8; 109] =
     *b"(((c0<p)&((c1<q)|(c2<r)))&((c3<p)&((c4<q)|(c5<r))))U(((c6<p)&((c7<q)|(c8<r)))&((c9<p)&((!(c1<q))|(X(c5<r)))))";
 
-fn agree(rt: &impl Abort, rule: &mut Rule, text: &[u8]) {
-    assert_eq!(rt; rule.read::<Reading>(text), slow(text));
-}
-
-// Every beginning of a text.
-fn agree_on_beginnings(rt: &impl Abort, rule: &mut Rule, whole: &[u8]) {
-    for end in 0..=whole.len() {
-        agree(rt, rule, &whole[..end]);
+fn agree(rule: &mut Rule, text: &[u8]) -> Result<(), Fail> {
+    let read = rule.read::<Reading>(text);
+    let wanted = slow(text);
+    if read == wanted {
+        Ok(())
+    } else {
+        Err(Fail::new(format_args!("{read:?} is not {wanted:?}")))
     }
 }
 
+// Every beginning of a text.
+fn agree_on_beginnings(rule: &mut Rule, whole: &[u8]) -> Result<(), Fail> {
+    for end in 0..=whole.len() {
+        agree(rule, &whole[..end])?;
+    }
+    Ok(())
+}
+
 // A text with one byte changed, at each place and to every byte.
-fn agree_on_changes<const N: usize>(rt: &impl Abort, rule: &mut Rule, whole: [u8; N]) {
+fn agree_on_changes<const N: usize>(rule: &mut Rule, whole: [u8; N]) -> Result<(), Fail> {
     for place in 0..N {
         for other in 0..=255u8 {
             let mut text = whole;
             text[place] = other;
-            agree(rt, rule, &text);
+            agree(rule, &text)?;
         }
     }
+    Ok(())
 }
 
 #[test]
 fn beginnings(rt: HostRuntime) -> Result<(), Fail> {
     let mut rule = Rule::new(rt.alloc())?;
-    agree_on_beginnings(&rt, &mut rule, &LONG);
-    agree_on_beginnings(&rt, &mut rule, &DEEP);
-    agree_on_beginnings(&rt, &mut rule, &LARGE);
-    Ok(())
+    agree_on_beginnings(&mut rule, &LONG)?;
+    agree_on_beginnings(&mut rule, &DEEP)?;
+    agree_on_beginnings(&mut rule, &LARGE)
 }
 
 #[test]
 fn one_byte_changed(rt: HostRuntime) -> Result<(), Fail> {
     let mut rule = Rule::new(rt.alloc())?;
-    agree_on_changes(&rt, &mut rule, LONG);
-    agree_on_changes(&rt, &mut rule, DEEP);
-    agree_on_changes(&rt, &mut rule, LARGE);
-    Ok(())
+    agree_on_changes(&mut rule, LONG)?;
+    agree_on_changes(&mut rule, DEEP)?;
+    agree_on_changes(&mut rule, LARGE)
 }
