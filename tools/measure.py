@@ -76,13 +76,15 @@ def measure(program, rule, records):
 
 def main():
     program = os.path.abspath(sys.argv[1] if len(sys.argv) > 1 else os.path.join(TOP, "crates/limits/out/limits"))
-    base, seconds, said = measure(program, "?", steady(2048))
-    print(f"refused at its first byte: {base} instructions, {seconds * 1000:.1f} ms ({said})")
+    bases = {}
+    for size in SIZES:
+        bases[size], seconds, said = measure(program, "?", steady(size))
+        print(f"refused at its first byte, {size} points: {bases[size]} instructions, {seconds * 1000:.1f} ms ({said})")
     for parts, rule, records in rules():
         row = []
         for size in SIZES:
             count, seconds, said = measure(program, rule, records(size))
-            row.append(count - base)
+            row.append(count - bases[size])
         print(f"{parts} parts, {len(rule)} bytes: {row}, {seconds * 1000:.1f} ms at {SIZES[-1]} ({said})")
 
 

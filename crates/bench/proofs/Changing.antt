@@ -16,6 +16,9 @@ use Rattle.solver.specs.declared.solvers.SolveFault.{SolveFault}
 use Rattle.solver.specs.declared.solvers.SolveFault.TheVariants.{Blank, NoPoint as past_point, Full as full_list}
 use Rattle.recording.specs.declared.recordings.Recording.{Ghosts as RecordingGhosts}
 use Rattle.scale.specs.declared.scales.Scale.{Ghosts as ScaleGhosts}
+use Rattle.std.specs.declared.cmp.Ord.{Ghosts as OrdGhosts}
+use Rattle.std.specs.declared.cmp.PartialEq.{Ghosts as EqGhosts}
+use Rattle.std.specs.declared.cmp.PartialOrd.{Ghosts as PartialGhosts}
 use Rattle.bench.specs.declared.benches.Bench.{Bench}
 use Rattle.bench.specs.declared.faults.BenchFault.{BenchFault}
 use Rattle.bench.specs.declared.faults.BenchFault.TheVariants.{Tape, Record, Part as part_fault, NoRule, Unsolved, Full, Ragged, Room}
@@ -25,7 +28,7 @@ use Rattle.bench.specs.Laws.{ChangeLaw, SetLaw, SolveLaw, SolveRight}
 use Rattle.bench.specs.Sets.{Sets}
 use Rattle.bench.specs.Settings.{fitted_from, fitted_part}
 use Rattle.bench.specs.Solved.{Solved}
-use Rattle.bench.specs.Views.{Agrees, Fresh, View, parts_in_force}
+use Rattle.bench.specs.Views.{Agrees, View, parts_in_force}
 use Rattle.bench.proofs.Fitting.{onward_ok}
 
 -- a refused change leaves what the tape tells
@@ -74,35 +77,34 @@ set_ok named channels (p ∷ ps) parts some e w =
     (λ tree. tree)
     (whole_tree parts w)
 
-module _ {S R : Type 0} {telling : RecordingGhosts R S} {scale : ScaleGhosts S} (rank : S → ℕ) (meaning : R → Meaning S) where
+module _ {S R : Type 0} {telling : RecordingGhosts R S} {scale : ScaleGhosts S} {ord : OrdGhosts S} {eq : EqGhosts S} {partial : PartialGhosts S} (rank : S → ℕ) (meaning : R → Meaning S) where
   -- a bench that changed in nothing that a view tells
-  pub agrees_still : (v : View S) (before after : Bench R S telling scale) → meaning after.recording ≡ meaning before.recording → parts_of after.formula ≡ parts_of before.formula → after.solved ≡ before.solved → boxes_of after.standing ≡ boxes_of before.standing → Agrees rank meaning v before → Agrees rank meaning v after
-  agrees_still v before after tells rule solved list a = record {
+  pub agrees_still : (v : View S) (before after : Bench R S telling scale ord eq partial) → meaning after.recording ≡ meaning before.recording → parts_of after.formula ≡ parts_of before.formula → after.solved ≡ before.solved → Agrees meaning v before → Agrees meaning v after
+  agrees_still v before after tells rule solved a = record {
     told = tells ∙ a.told;
     rule = rule ∙ a.rule;
     solved = solved ∙ a.solved;
-    fresh = subst (Fresh rank v.told v.rule v.solved) (sym list) a.fresh;
   }
 
-  pub change_law : (does : Meaning S → Result (Unit {0}) TapeFault → Meaning S → Type 0) → ((m n : Meaning S) (f : TapeFault) → does m (Err f) n → n ≡ m) → (before after : Bench R S telling scale) (answer : Result (Unit {0}) BenchFault) → Changes (λ a. does (meaning before.recording) a (meaning after.recording)) answer before.solved after.solved → after.formula ≡ before.formula → after.standing ≡ before.standing → ChangeLaw rank meaning does before answer after
-  change_law does refused before after (Ok u) h rule list v a = (meaning after.recording, subst (λ m. does m (Ok u) (meaning after.recording)) a.told h.0, record { told = refl; rule = ap parts_of rule ∙ a.rule; solved = h.1; fresh = tt })
-  change_law does refused before after (Err fault) h rule list v a =
+  pub change_law : (does : Meaning S → Result (Unit {0}) TapeFault → Meaning S → Type 0) → ((m n : Meaning S) (f : TapeFault) → does m (Err f) n → n ≡ m) → (before after : Bench R S telling scale ord eq partial) (answer : Result (Unit {0}) BenchFault) → Changes (λ a. does (meaning before.recording) a (meaning after.recording)) answer before.solved after.solved → after.formula ≡ before.formula → ChangeLaw rank meaning does before answer after
+  change_law does refused before after (Ok u) h rule v a = (meaning after.recording, subst (λ m. does m (Ok u) (meaning after.recording)) a.told h.0, record { told = refl; rule = ap parts_of rule ∙ a.rule; solved = h.1 })
+  change_law does refused before after (Err fault) h rule v a =
       let f = h.0 in
       let same : meaning after.recording ≡ meaning before.recording = refused (meaning before.recording) (meaning after.recording) f h.2 in
       let was = subst (λ m. does (meaning before.recording) (Err f) m) same h.2 in
-      (f, h.1, subst (λ m. does m (Err f) m) a.told was, agrees_still v before after same (ap parts_of rule) h.3 (ap boxes_of list) a)
+      (f, h.1, subst (λ m. does m (Err f) m) a.told was, agrees_still v before after same (ap parts_of rule) h.3 a)
 
   -- a refused solve
-  refused_solve : (before after : Bench R S telling scale) (point : ℕ) (v : View S) → Agrees rank meaning v before → meaning after.recording ≡ meaning before.recording → parts_of after.formula ≡ parts_of before.formula → (f : SolveFault) → Solves rank (meaning before.recording).mark (meaning before.recording).points (parts_of before.formula) (Err f) point (boxes_of before.standing) (boxes_of after.standing) → after.solved ≡ before.solved → SolveRight rank v point (Err (solve_fault f)) × Agrees rank meaning v after
-  refused_solve before after point v a tells rule Blank h solved = (no_force v.rule (parts_of before.formula) a.rule h.0, agrees_still v before after tells rule solved h.1 a)
+  refused_solve : (before after : Bench R S telling scale ord eq partial) (point : ℕ) (v : View S) → Agrees meaning v before → meaning after.recording ≡ meaning before.recording → parts_of after.formula ≡ parts_of before.formula → (f : SolveFault) → Solves rank (meaning before.recording).mark (meaning before.recording).points (parts_of before.formula) (Err f) point (boxes_of before.standing) (boxes_of after.standing) → after.solved ≡ before.solved → SolveRight rank v point (Err (solve_fault f)) × Agrees meaning v after
+  refused_solve before after point v a tells rule Blank h solved = (no_force v.rule (parts_of before.formula) a.rule h.0, agrees_still v before after tells rule solved a)
   refused_solve before after point v a tells rule past_point h solved =
       let f = in_force v.rule (parts_of before.formula) a.rule h.0 in
-      ((f.0, f.1, subst (λ x. x.points ≤ point) a.told h.1, refl), agrees_still v before after tells rule solved h.2 a)
+      ((f.0, f.1, subst (λ x. x.points ≤ point) a.told h.1, refl), agrees_still v before after tells rule solved a)
   refused_solve before after point v a tells rule (full_list at k) h solved =
       let f = in_force v.rule (parts_of before.formula) a.rule h.0 in
-      ((f.0, f.1, subst (λ x. point < x.points) a.told h.1, same_derived rank v.told (meaning before.recording) (numbered 0 f.0) (parts_of before.formula) point a.told f.2 ∙ h.2), agrees_still v before after tells rule solved h.3 a)
+      ((f.0, f.1, subst (λ x. point < x.points) a.told h.1, same_derived rank v.told (meaning before.recording) (numbered 0 f.0) (parts_of before.formula) point a.told f.2 ∙ h.2), agrees_still v before after tells rule solved a)
 
-  pub solve_law : (before after : Bench R S telling scale) (point : ℕ) (answer : Result ℕ BenchFault) → Solved rank (meaning before.recording) (parts_of before.formula) answer point (boxes_of before.standing) (boxes_of after.standing) before.solved after.solved → after.recording ≡ before.recording → after.formula ≡ before.formula → SolveLaw rank meaning before point answer after
+  pub solve_law : (before after : Bench R S telling scale ord eq partial) (point : ℕ) (answer : Result ℕ BenchFault) → Solved rank (meaning before.recording) (parts_of before.formula) answer point (boxes_of before.standing) (boxes_of after.standing) before.solved after.solved → after.recording ≡ before.recording → after.formula ≡ before.formula → SolveLaw rank meaning before point answer after
   solve_law before after point (Ok count) h recording rule v a =
       let m = meaning before.recording in
       let parts = parts_of before.formula in
@@ -116,21 +118,20 @@ module _ {S R : Type 0} {telling : RecordingGhosts R S} {scale : ScaleGhosts S} 
           told = ap meaning recording ∙ a.told;
           rule = ap parts_of rule ∙ a.rule;
           solved = h.1;
-          fresh = subst (λ r. Fresh rank v.told r (Some point) list) (sym f.1) (below, is);
         },
       )
   solve_law before after point (Err fault) h recording rule v a =
-      subst (λ f. SolveRight rank v point (Err f) × Agrees rank meaning v after) (sym h.1) (refused_solve before after point v a (ap meaning recording) (ap parts_of rule) h.0 h.2 h.3)
+      subst (λ f. SolveRight rank v point (Err f) × Agrees meaning v after) (sym h.1) (refused_solve before after point v a (ap meaning recording) (ap parts_of rule) h.0 h.2 h.3)
 
-  pub set_law : (named : ℕ → Option S) (before after : Bench R S telling scale) (rule : List (Part ℕ)) (answer : Result (Unit {0}) BenchFault) → Sets named (meaning before.recording).channels rule answer (parts_of before.formula) (parts_of after.formula) before.solved after.solved → after.recording ≡ before.recording → after.standing ≡ before.standing → SetLaw rank meaning named before rule answer after
-  set_law named before after rule (Ok u) h recording list v a =
+  pub set_law : (named : ℕ → Option S) (before after : Bench R S telling scale ord eq partial) (rule : List (Part ℕ)) (answer : Result (Unit {0}) BenchFault) → Sets named (meaning before.recording).channels rule answer (parts_of before.formula) (parts_of after.formula) before.solved after.solved → after.recording ≡ before.recording → SetLaw rank meaning named before rule answer after
+  set_law named before after rule (Ok u) h recording v a =
       let t = set_ok named (meaning before.recording).channels rule (parts_of after.formula) h.0 h.1 after.whole in
-      (t.0, ap (λ m. fitted_from named m.channels 0 rule) (sym a.told) ∙ h.1 ∙ ap Ok t.1, record { told = ap meaning recording ∙ a.told; rule = t.1; solved = h.2; fresh = tt })
-  set_law named before after rule (Err NoRule) h recording list v a = (h.0, agrees_still v before after (ap meaning recording) h.1 h.2 (ap boxes_of list) a)
-  set_law named before after rule (Err (part_fault k fault)) h recording list v a = (h.0, ap (λ m. fitted_from named m.channels 0 rule) (sym a.told) ∙ h.1, agrees_still v before after (ap meaning recording) h.2 h.3 (ap boxes_of list) a)
-  set_law named before after rule (Err (Tape f)) h recording list v a = absurd h
-  set_law named before after rule (Err (Record k f)) h recording list v a = absurd h
-  set_law named before after rule (Err Unsolved) h recording list v a = absurd h
-  set_law named before after rule (Err (Full at k)) h recording list v a = absurd h
-  set_law named before after rule (Err Ragged) h recording list v a = absurd h
-  set_law named before after rule (Err (Room n)) h recording list v a = absurd h
+      (t.0, ap (λ m. fitted_from named m.channels 0 rule) (sym a.told) ∙ h.1 ∙ ap Ok t.1, record { told = ap meaning recording ∙ a.told; rule = t.1; solved = h.2 })
+  set_law named before after rule (Err NoRule) h recording v a = (h.0, agrees_still v before after (ap meaning recording) h.1 h.2 a)
+  set_law named before after rule (Err (part_fault k fault)) h recording v a = (h.0, ap (λ m. fitted_from named m.channels 0 rule) (sym a.told) ∙ h.1, agrees_still v before after (ap meaning recording) h.2 h.3 a)
+  set_law named before after rule (Err (Tape f)) h recording v a = absurd h
+  set_law named before after rule (Err (Record k f)) h recording v a = absurd h
+  set_law named before after rule (Err Unsolved) h recording v a = absurd h
+  set_law named before after rule (Err (Full at k)) h recording v a = absurd h
+  set_law named before after rule (Err Ragged) h recording v a = absurd h
+  set_law named before after rule (Err (Room n)) h recording v a = absurd h

@@ -1,13 +1,23 @@
 -- Parts fitted one after another. Assumes nothing.
-use Rattle.std.proofs.Common.{◌≡◌, ℕ, ◌+◌, Bool, true, false, cond, ◌&&◌, eqb, ltb, List, [], ◌∷◌, ◌++◌, Ok, Err, Option, Result, sym, refl, ap, ◌∙◌, append_assoc, arith}
+use Rattle.std.proofs.Common.{◌≡◌, ℕ, ◌+◌, Bool, true, false, cond, ◌&&◌, eqb, ltb, List, [], ◌∷◌, ◌++◌, Ok, Err, None, Some, Option, Result, sym, refl, ap, ◌∙◌, append_assoc, arith}
 use Rattle.recording.specs.declared.faults.TapeFault.{TapeFault}
+use Rattle.recording.specs.declared.faults.TapeFault.TheVariants.{NoChannel}
+use Rattle.scale.specs.declared.faults.ScaleFault.TheVariants.{NoMark}
+use Rattle.std.specs.Option.{ok_or}
 use Rattle.formula.specs.declared.parts.Comparator.{Comparator}
 use Rattle.formula.specs.declared.parts.Operand.{Operand}
+use Rattle.formula.specs.declared.parts.Operand.TheVariants.{Limit, Channel, Constant}
 use Rattle.formula.specs.declared.parts.Part.{Part}
 use Rattle.formula.specs.declared.parts.Part.TheVariants.{Comparison, Unary, Binary}
+use Rattle.formula.specs.Conversions.{ConvertsOperand, ConvertsPart}
 use Rattle.formula.specs.Assembly.{assembles, wholly}
 use Rattle.formula.specs.Orders.{reach}
-use Rattle.bench.specs.Settings.{compared, fitted_from, fitted_operand, fitted_part, onward}
+use Rattle.bench.specs.Settings.{channels_checked, compared, fitted_from, fitted_operand, fitted_part, marked, onward, operand_checked}
+
+-- what a check let pass
+passed : (b : Bool) (r : Result (Unit {0}) TapeFault) (f : TapeFault) → cond b r (Err f) ≡ Ok tt → (b ≡ true) × (r ≡ Ok tt)
+passed true r f e = (refl, e)
+passed false r f e = let z : ◌≡◌ {A = ℕ} 0 1 = cc in absurd (omega arith)
 
 -- what stands, and behind it what is to come
 abbrev pub follow : {S E : Type 0} → List S → Result (List S) E → Result (List S) E
@@ -23,6 +33,25 @@ module _ {S : Type 0} (named : ℕ → Option S) (channels : ℕ) where
   pub one_more : (k : ℕ) (qs : List (Part S)) (q : Part S) (r : Result (List (Part S)) (ℕ × TapeFault)) → follow qs (onward named channels k (Ok q) r) ≡ follow (qs ++ (q ∷ [])) r
   one_more k qs q (Ok ps) = ap Ok (sym (append_assoc qs (q ∷ []) ps))
   one_more k qs q (Err e) = refl
+
+  marked_ok : (x : Option S) (m : S) → Ok m ≡ ok_or x NoMark → marked named channels x ≡ Ok (Constant m)
+  marked_ok None m e = let z : ◌≡◌ {A = ℕ} 0 1 = cc in absurd (omega arith)
+  marked_ok (Some n) m e = let same : n ≡ m = cc in ap (λ k. Ok (Constant k)) same
+
+  operand_fits : (p : Operand ℕ) (q : Operand S) → operand_checked channels p ≡ Ok tt → ConvertsOperand (λ k out. out ≡ ok_or (named k) NoMark) p (Ok q) → fitted_operand named channels p ≡ Ok q
+  operand_fits (Limit l) q e h = let same : Limit l ≡ q = cc in ap Ok same
+  operand_fits (Channel c) q e h = ap (λ b. cond b (Ok (Channel c)) (Err NoChannel)) (passed (ltb c channels) (Ok tt) NoChannel e).0 ∙ (let same : Channel c ≡ q = cc in ap Ok same)
+  operand_fits (Constant k) q e h = marked_ok (named k) h.0 h.1 ∙ ap Ok (sym h.2)
+
+  -- a part whose channels there are and whose constant is converted is fitted
+  pub part_fits : (p : Part ℕ) (q : Part S) → channels_checked channels p ≡ Ok tt → ConvertsPart (λ k out. out ≡ ok_or (named k) NoMark) p (Ok q) → fitted_part named channels p ≡ Ok q
+  part_fits (Comparison channel c o) q e h =
+      let known = passed (ltb channel channels) (operand_checked channels o) NoChannel e in
+      ap (λ b. cond b (compared named channels channel c (fitted_operand named channels o)) (Err NoChannel)) known.0
+      ∙ ap (compared named channels channel c) (operand_fits o h.0 known.1 h.1)
+      ∙ ap Ok (sym h.2)
+  part_fits (Unary op a) q e h = let same : Unary op a ≡ q = cc in ap Ok same
+  part_fits (Binary op l r) q e h = let same : Binary op l r ≡ q = cc in ap Ok same
 
   compared_reach : (channel : ℕ) (c : Comparator) (r : Result (Operand S) TapeFault) (q : Part S) → compared named channels channel c r ≡ Ok q → reach q ≡ 0
   compared_reach channel c (Ok o) q e = let same : Comparison channel c o ≡ q = cc in ap reach (sym same)

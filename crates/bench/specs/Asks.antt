@@ -5,9 +5,10 @@ use Rattle.scale.specs.declared.cuts.Cut.{Cut}
 use Rattle.scale.specs.declared.faults.ScaleFault.TheVariants.{NoMark}
 use Rattle.recording.specs.declared.faults.TapeFault.{TapeFault}
 use Rattle.recording.specs.declared.faults.TapeFault.TheVariants.{Scale}
+use Rattle.domain.specs.declared.shapes.Choice.{Choice}
 use Rattle.domain.specs.Added.{Boxes}
 use Rattle.domain.specs.Covering.{Covered}
-use Rattle.domain.specs.Picking.{behind, first_picked, three}
+use Rattle.domain.specs.Picking.{behind, first_picked, marks_of}
 use Rattle.bench.specs.declared.faults.BenchFault.{BenchFault}
 use Rattle.bench.specs.declared.faults.BenchFault.TheVariants.{Tape, Unsolved}
 
@@ -16,9 +17,14 @@ abbrev pub three_named : {S : Type 0} → (ℕ → Option S) → ℕ → ℕ →
 three_named named p q r = behind (named p) (behind (named q) (behind (named r) (Some [])))
 
 -- these are the marks, or some code has none
-abbrev pub Named : {S : Type 0} → Option (List S) → Result (S × S × S) TapeFault → Type 0
-Named marks (Ok (p, q, r)) = marks ≡ Some (p ∷ q ∷ r ∷ [])
+abbrev pub Named : {S : Type 0} → Option (List S) → Result (Choice S) TapeFault → Type 0
+Named marks (Ok choice) = marks ≡ Some (marks_of choice)
 Named marks (Err fault) = (marks ≡ None) × (fault ≡ Scale NoMark)
+
+-- three codes as a list of them
+abbrev pub three : Option (ℕ × ℕ × ℕ) → Option (List ℕ)
+three None = None
+three (Some (p, q, r)) = Some (p ∷ q ∷ r ∷ [])
 
 -- a code that no mark has
 abbrev pub no_mark : BenchFault

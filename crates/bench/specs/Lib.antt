@@ -1,6 +1,7 @@
 pub mod Asks
 pub mod Changes
 pub mod Faults
+pub mod Fresh
 pub mod Laws
 pub mod Printed
 pub mod Sets

@@ -1,18 +1,18 @@
 -- What a bench stands for: what its recording tells, the formula in force and the point of the solve that stands.
 -- Assumes nothing.
-use Rattle.std.specs.Prelude.{◌≡◌, ℕ, ◌<◌, List, [], Some, None, Ok, Option}
+use Rattle.std.specs.Prelude.{◌≡◌, ℕ, List, [], Some, None, Option}
 use Rattle.recording.specs.Meaning.{Meaning}
 use Rattle.formula.specs.declared.parts.LimitName.{LimitName}
 use Rattle.formula.specs.declared.parts.LimitName.TheVariants.{P, Q, R}
 use Rattle.formula.specs.declared.parts.Part.{Part}
 use Rattle.formula.specs.Formulas.{parts_of}
 use Rattle.formula.specs.Trees.{Tree, numbered}
-use Rattle.domain.specs.Added.{Boxes}
-use Rattle.domain.specs.Listed.{boxes_of}
-use Rattle.solver.specs.Derived.{derived}
 use Rattle.solver.specs.Truth.{Holds}
 use Rattle.recording.specs.declared.recordings.Recording.{Ghosts as RecordingGhosts}
 use Rattle.scale.specs.declared.scales.Scale.{Ghosts as ScaleGhosts}
+use Rattle.std.specs.declared.cmp.Ord.{Ghosts as OrdGhosts}
+use Rattle.std.specs.declared.cmp.PartialEq.{Ghosts as EqGhosts}
+use Rattle.std.specs.declared.cmp.PartialOrd.{Ghosts as PartialGhosts}
 use Rattle.bench.specs.declared.benches.Bench.{Bench}
 
 pub record View (S : Type 0) : Type 0 where
@@ -31,20 +31,13 @@ limits_of p q r P = p
 limits_of p q r Q = q
 limits_of p q r R = r
 
+-- the bench stands for the view; that its list belongs to the view is true of every bench
+pub record Agrees {R S : Type 0} {telling : RecordingGhosts R S} {scale : ScaleGhosts S} {ord : OrdGhosts S} {eq : EqGhosts S} {partial : PartialGhosts S} (meaning : R → Meaning S) (v : View S) (b : Bench R S telling scale ord eq partial) : Type 0 where
+  pub told : meaning b.recording ≡ v.told
+  pub rule : parts_of b.formula ≡ parts_in_force v.rule
+  pub solved : b.solved ≡ v.solved
+
 module _ {S : Type 0} (rank : S → ℕ) where
-  -- the list is the one derived of the formula, at the point of the solve, from what the recording tells now
-  abbrev pub Fresh : Meaning S → Option (Tree S) → Option ℕ → Boxes S → Type 0
-  Fresh m rule None list = Unit {0}
-  Fresh m None (Some point) list = ⊥
-  Fresh m (Some t) (Some point) list = (point < m.points) × (derived rank m.mark m.points (numbered 0 t) point ≡ Ok list)
-
-  -- the bench stands for the view
-  pub record Agrees {R : Type 0} {telling : RecordingGhosts R S} {scale : ScaleGhosts S} (meaning : R → Meaning S) (v : View S) (b : Bench R S telling scale) : Type 0 where
-    pub told : meaning b.recording ≡ v.told
-    pub rule : parts_of b.formula ≡ parts_in_force v.rule
-    pub solved : b.solved ≡ v.solved
-    pub fresh : Fresh v.told v.rule v.solved (boxes_of b.standing)
-
   -- the formula in force is true with these limits, at the point of the solve, of the recording as it tells now
   abbrev pub TrueAt : Meaning S → Option (Tree S) → Option ℕ → (LimitName → S) → Type 0
   TrueAt m rule None limits = ⊥

@@ -1,5 +1,5 @@
-// The calls of a bench.
-ghost use Rattle.std.specs.Prelude.{◌≡◌, ◌≤◌, [], length, IfOk, None, OnErr};
+// The calls of a bench. Those with a law leave their work to a function without, so that the law is shown once for all exits.
+ghost use Rattle.std.specs.Prelude.{◌≡◌, ◌≤◌, [], length, true, is_some, IfOk, MatchResult, None, OnErr};
 ghost use Rattle.formula.specs.Formulas.{parts_of};
 ghost use Rattle.domain.specs.Listed.{boxes_of};
 ghost use Rattle.rule.specs.Rules.{rule_parts};
@@ -58,13 +58,7 @@ impl<R: Recording> Bench<R> {
         if rule.is_blank() {
             return Err(BenchFault::NoRule);
         }
-        if let Err((part, fault)) = fit_parts(
-            rule.formula().parts(),
-            self.recording.channels(),
-            &mut self.fresh,
-        ) {
-            return Err(BenchFault::Part { part, fault });
-        }
+        fit_parts(rule.formula(), self.recording.channels(), &mut self.fresh)?;
         std::mem::swap(&mut self.formula, &mut self.fresh);
         self.solved = None;
         Ok(())
@@ -98,14 +92,6 @@ impl<R: Recording> Bench<R> {
         ensures bound { IfOk result (λ n. n ≤ length output.old) }
         ensures refused { OnErr result (output.new ≡ output.old) }
     {
-        if self.solved.is_none() {
-            return Err(BenchFault::Unsolved);
-        }
-        match Listing::of(&self.standing).print(output) {
-            Ok(length) => Ok(length),
-            Err(refusal) => Err(BenchFault::Room {
-                needed: refusal.needed,
-            }),
-        }
+        Ok(Listing::of(self.solved_list()?).print(output)?)
     }
 }

@@ -1,4 +1,5 @@
-// Changes of the tape that a bench stands on. An accepted one leaves the bench unsolved.
+// Changes of the tape that a bench stands on. An accepted one leaves the bench unsolved. As with its other calls, the law of each
+// is shown once for all exits of a function without, and what a call leaves as it was is told by each: a type cannot tell it.
 ghost use Rattle.std.specs.Prelude.{◌≡◌};
 ghost use Rattle.recording.specs.Changes.{Added, Withdrawn};
 ghost use Rattle.bench.specs.Changes.{Changes, CodeAmended, Placed};
@@ -6,7 +7,7 @@ ghost use Rattle.bench.specs.Laws.{ChangeLaw};
 
 use crate::benches::Bench;
 use crate::faults::BenchFault;
-use crate::settings::named_mark;
+use crate::settings::{check_channel, named_mark};
 use recording::{Recording, Tape, TapeFault};
 
 // Whether a mark of the recording can be amended.
@@ -16,9 +17,7 @@ fn check_place<R: Recording>(recording: &R, point: usize, channel: usize) -> Res
     if point >= recording.points() {
         return Err(TapeFault::NoPoint);
     }
-    if channel >= recording.channels() {
-        return Err(TapeFault::NoChannel);
-    }
+    check_channel(channel, recording.channels())?;
     if !recording.is_given(channel) {
         return Err(TapeFault::NotGiven);
     }

@@ -1,8 +1,9 @@
 // What a bench refuses, and the number of each refusal.
 ghost use Rattle.std.specs.Prelude.{◌≡◌};
 ghost use Rattle.bench.specs.Faults.{bench_number, bench_layer, solve_fault, records_fault};
-ghost use Rattle.bench.specs.declared.faults.BenchFault.TheVariants.{Tape as of_tape};
+ghost use Rattle.bench.specs.declared.faults.BenchFault.TheVariants.{Tape as of_tape, Room as of_room};
 
+use listing::NoRoom;
 use recording::{RecordsFault, TapeFault};
 use scale::Layer;
 use solver::SolveFault;
@@ -25,6 +26,7 @@ pub enum BenchFault {
     Room { needed: usize },
 }
 
+// Each `From` says by `from_gives` what it makes of a fault, which the one that the toolchain derives does not.
 impl From<TapeFault> for BenchFault {
     ghost from_gives = { λ fault out. out ≡ of_tape fault };
 
@@ -56,15 +58,25 @@ impl From<SolveFault> for BenchFault {
     }
 }
 
+impl From<NoRoom> for BenchFault {
+    ghost from_gives = { λ fault out. out ≡ of_room fault.needed };
+
+    fn from(fault: NoRoom) -> BenchFault {
+        BenchFault::Room {
+            needed: fault.needed,
+        }
+    }
+}
+
 impl BenchFault {
     // The number that stands for the fault outside the program.
     pub fn number(self) -> u32
         ensures { result ≡ bench_number self }
     {
         match self {
-            BenchFault::Tape(fault) => fault.number(),
-            BenchFault::Record { fault, .. } => fault.number(),
-            BenchFault::Part { fault, .. } => fault.number(),
+            BenchFault::Tape(fault)
+            | BenchFault::Record { fault, .. }
+            | BenchFault::Part { fault, .. } => fault.number(),
             BenchFault::NoRule => 12,
             BenchFault::Unsolved => 13,
             BenchFault::Full { .. } => 14,
@@ -78,9 +90,9 @@ impl BenchFault {
         ensures { result ≡ bench_layer self }
     {
         match self {
-            BenchFault::Tape(fault) => fault.layer(),
-            BenchFault::Record { fault, .. } => fault.layer(),
-            BenchFault::Part { fault, .. } => fault.layer(),
+            BenchFault::Tape(fault)
+            | BenchFault::Record { fault, .. }
+            | BenchFault::Part { fault, .. } => fault.layer(),
             _ => Layer::Bench,
         }
     }

@@ -1,4 +1,6 @@
-// What a solved bench is asked: whether limits keep the rule, and for limits that do.
+// What a solved bench is asked: whether limits keep the rule, and for limits that do. As with its other calls, the law of each
+// is shown once for all exits of a function without.
+ghost use Rattle.std.specs.Prelude.{◌≡◌, IsSome, MatchResult};
 ghost use Rattle.domain.specs.Listed.{boxes_of};
 ghost use Rattle.bench.specs.Asks.{Asks, Finds, Named, three_named};
 ghost use Rattle.bench.specs.Laws.{AskLaw, FindLaw};
@@ -6,20 +8,31 @@ ghost use Rattle.bench.specs.Laws.{AskLaw, FindLaw};
 use crate::benches::Bench;
 use crate::faults::BenchFault;
 use crate::settings::named_mark;
+use domain::{Choice, Domain};
 use recording::{Recording, TapeFault};
 use scale::Scale;
 
-// The marks of three codes.
-fn named_three<S: Scale>(p: u32, q: u32, r: u32) -> Result<(S, S, S), TapeFault>
+// The choice of three codes.
+fn named_choice<S: Scale>(p: u32, q: u32, r: u32) -> Result<Choice<S>, TapeFault>
     ensures { Named (three_named S.named p q r) result }
 {
     let p = named_mark(p)?;
     let q = named_mark(q)?;
     let r = named_mark(r)?;
-    Ok((p, q, r))
+    Ok(Choice { p, q, r })
 }
 
 impl<R: Recording> Bench<R> {
+    // The list of the solve that stands.
+    pub(crate) fn solved_list(&self) -> Result<&Domain<R::Mark>, BenchFault>
+        ensures { MatchResult result (λ list. (IsSome self.now.solved) × (list.now ≡ self.now.standing)) (λ e. (e ≡ BenchFault.Unsolved) × (self.now.solved ≡ None)) }
+    {
+        if self.solved.is_none() {
+            return Err(BenchFault::Unsolved);
+        }
+        Ok(&self.standing)
+    }
+
     // Whether the rule is true with these limits, given as codes.
     pub fn ask(&self, p: u32, q: u32, r: u32) -> Result<bool, BenchFault>
         ensures list { Asks R.Mark.rank self.now.solved (boxes_of self.now.standing) (three_named R.Mark.named p q r) result }
@@ -32,11 +45,8 @@ impl<R: Recording> Bench<R> {
     fn lie_together(&self, p: u32, q: u32, r: u32) -> Result<bool, BenchFault>
         ensures { Asks R.Mark.rank self.now.solved (boxes_of self.now.standing) (three_named R.Mark.named p q r) result }
     {
-        if self.solved.is_none() {
-            return Err(BenchFault::Unsolved);
-        }
-        let (p, q, r) = named_three(p, q, r)?;
-        Ok(self.standing.covers(p, q, r))
+        let list = self.solved_list()?;
+        Ok(list.covers(named_choice(p, q, r)?))
     }
 
     // Limits with which the rule is true, as codes, if there are any.
@@ -51,12 +61,7 @@ impl<R: Recording> Bench<R> {
     fn first_picks(&self) -> Result<Option<(u32, u32, u32)>, BenchFault>
         ensures { Finds R.Mark.code R.Mark.picked self.now.solved (boxes_of self.now.standing) result }
     {
-        if self.solved.is_none() {
-            return Err(BenchFault::Unsolved);
-        }
-        match self.standing.find() {
-            Some((p, q, r)) => Ok(Some((p.to_code(), q.to_code(), r.to_code()))),
-            None => Ok(None),
-        }
+        let picks = self.solved_list()?.find();
+        Ok(picks.map(|choice| (choice.p.to_code(), choice.q.to_code(), choice.r.to_code())))
     }
 }

@@ -1,22 +1,21 @@
 // Rules set on a bench: each part is held against the recording's channels and scale.
-ghost use Rattle.std.specs.Prelude.{◌≡◌, ◌≤◌, length, if◌then◌else◌, Ok, Err, nat_lt};
+ghost use Rattle.std.specs.Prelude.{◌≡◌};
 ghost use Rattle.std.specs.Option.{ok_or};
 ghost use Rattle.scale.specs.declared.faults.ScaleFault.TheVariants.{NoMark};
-ghost use Rattle.recording.specs.declared.faults.TapeFault.TheVariants.{NoChannel};
 ghost use Rattle.formula.specs.Formulas.{parts_of};
-ghost use Rattle.formula.specs.Orders.{Ordered};
-ghost use Rattle.bench.specs.Settings.{Fitted, fitted_from, fitted_operand, fitted_part};
+ghost use Rattle.bench.specs.Settings.{Fitted, channel_checked, channels_checked, fitted_from, fitted_part};
 
-use formula::{Formula, Operand, Part};
+use crate::faults::BenchFault;
+use formula::{Conversion, Formula, Operand, Part};
 use recording::TapeFault;
 use scale::{Scale, ScaleFault};
 
-// A channel that the recording has.
-fn known_channel(channel: usize, channels: usize) -> Result<usize, TapeFault>
-    ensures { result ≡ (if nat_lt channel channels then Ok channel else Err NoChannel) }
+// Refuses a channel that the recording has not.
+pub(crate) fn check_channel(channel: usize, channels: usize) -> Result<(), TapeFault>
+    ensures { result ≡ channel_checked channels channel }
 {
     if channel < channels {
-        Ok(channel)
+        Ok(())
     } else {
         Err(TapeFault::NoChannel)
     }
@@ -26,71 +25,67 @@ fn known_channel(channel: usize, channels: usize) -> Result<usize, TapeFault>
 pub(crate) fn named_mark<S: Scale>(number: u32) -> Result<S, ScaleFault>
     ensures { result ≡ ok_or (S.named number) NoMark }
 {
-    match S::of_code(number) {
-        Some(mark) => Ok(mark),
-        None => Err(ScaleFault::NoMark),
+    S::of_code(number).ok_or(ScaleFault::NoMark)
+}
+
+// Codes, as the marks that they name.
+#[derive(Clone, Copy)]
+struct NamedMarks;
+
+impl<S: Scale> Conversion<u32, S> for NamedMarks {
+    type Fault = ScaleFault;
+
+    ghost answers = { λ _ code out. out ≡ ok_or (S.named code) NoMark };
+
+    fn convert(&self, code: u32) -> Result<S, ScaleFault> {
+        named_mark(code)
     }
 }
 
-fn fit_operand<S: Scale>(operand: Operand<u32>, channels: usize) -> Result<Operand<S>, TapeFault>
-    ensures { result ≡ fitted_operand S.named channels operand }
+// Refuses a part that names a channel that the recording has not.
+fn check_channels(part: &Part<u32>, channels: usize) -> Result<(), TapeFault>
+    ensures { result ≡ channels_checked channels part.now }
 {
-    match operand {
-        Operand::Limit(limit) => Ok(Operand::Limit(limit)),
-        Operand::Channel(channel) => Ok(Operand::Channel(known_channel(channel, channels)?)),
-        Operand::Constant(code) => Ok(Operand::Constant(named_mark(code)?)),
+    if let Part::Comparison {
+        channel,
+        operand,
+        ..
+    } = part
+    {
+        check_channel(*channel, channels)?;
+        if let Operand::Channel(other) = operand {
+            check_channel(*other, channels)?;
+        }
     }
+    Ok(())
 }
 
 // The part with marks in place of codes.
 fn fit_part<S: Scale>(part: Part<u32>, channels: usize) -> Result<Part<S>, TapeFault>
     ensures { result ≡ fitted_part S.named channels part }
 {
-    match part {
-        Part::Comparison {
-            channel,
-            comparator,
-            operand,
-        } => {
-            let channel = known_channel(channel, channels)?;
-            let operand = fit_operand(operand, channels)?;
-            Ok(Part::Comparison {
-                channel,
-                comparator,
-                operand,
-            })
-        }
-        Part::Unary { operator, operand } => Ok(Part::Unary { operator, operand }),
-        Part::Binary {
-            operator,
-            left,
-            right,
-        } => Ok(Part::Binary {
-            operator,
-            left,
-            right,
-        }),
-    }
+    check_channels(&part, channels)?;
+    Ok(part.convert(&NamedMarks)?)
 }
 
 // All parts with marks in place of codes, or the first that is refused, with its number.
 pub(crate) fn fit_parts<S: Scale>(
-    parts: &[Part<u32>],
+    formula: &Formula<u32>,
     channels: usize,
     fresh: &mut Formula<S>,
-) -> Result<(), (usize, TapeFault)>
-    requires few { length parts.now ≤ 24 }
-    requires ordered { Ordered parts.now }
-    ensures { Fitted result (parts_of fresh.new) (fitted_from S.named channels 0 parts.now) }
+) -> Result<(), BenchFault>
+    ensures { Fitted result (parts_of fresh.new) (fitted_from S.named channels 0 (parts_of formula.now)) }
 {
     fresh.clear();
-    for part in 0..parts.len() {
-        match fit_part(parts[part], channels) {
-            Ok(fitted) => {
-                fresh.push(fitted);
-            }
-            Err(fault) => return Err((part, fault)),
-        }
+    for (number, part) in formula.parts().iter().enumerate() {
+        let fitted = match fit_part(*part, channels) {
+            Ok(fitted) => fitted,
+            Err(fault) => return Err(BenchFault::Part {
+                part: number,
+                fault,
+            }),
+        };
+        fresh.push(fitted).unwrap();
     }
     Ok(())
 }

@@ -21,12 +21,9 @@ mod tests {
         Ok(RowTape::new(blanks))
     }
 
-    // The number of the refusal, or 0.
-    fn number(answer: Result<(), TapeFault>) -> u32 {
-        match answer {
-            Ok(()) => 0,
-            Err(fault) => fault.number(),
-        }
+    // The number of the refusal, if there is one.
+    fn refusal(answer: Result<(), TapeFault>) -> Option<u32> {
+        answer.err().map(TapeFault::number)
     }
 
     // A tape of eight rows whose channel 0 reads these values at ticks 0, 10, 20 and so on.
@@ -63,19 +60,19 @@ mod tests {
     #[test]
     fn adding(rt: HostRuntime) -> Result<(), Fail> {
         let mut tape = tape_of(rt.alloc(), &[3, 7, 5])?;
-        assert_eq!(rt; number(tape.add(20)), 11);
-        assert_eq!(rt; number(tape.add(0)), 11);
+        assert_eq!(rt; refusal(tape.add(20)), Some(11));
+        assert_eq!(rt; refusal(tape.add(0)), Some(11));
         assert_eq!(rt; tape.points(), 3);
-        assert_eq!(rt; number(tape.add(21)), 0);
+        assert_eq!(rt; refusal(tape.add(21)), None);
         assert_eq!(rt; (tape.points(), tape.tick(2), tape.tick(3)), (4, 20, 21));
         assert_eq!(rt; tape.mark(3, 0).to_i32(), 5);
-        assert_eq!(rt; number(tape.add(4_294_967_295)), 0);
-        assert_eq!(rt; number(tape.add(4_294_967_295)), 11);
+        assert_eq!(rt; refusal(tape.add(4_294_967_295)), None);
+        assert_eq!(rt; refusal(tape.add(4_294_967_295)), Some(11));
         let mut short = blank_tape::<Stage>(rt.alloc(), 1)?;
-        assert_eq!(rt; number(short.add(0)), 0);
+        assert_eq!(rt; refusal(short.add(0)), None);
         assert_eq!(rt; short.mark(0, 3), Stage::Off);
-        assert_eq!(rt; number(short.add(0)), 10);
-        assert_eq!(rt; number(short.add(1)), 10);
+        assert_eq!(rt; refusal(short.add(0)), Some(10));
+        assert_eq!(rt; refusal(short.add(1)), Some(10));
         Ok(())
     }
 
@@ -83,19 +80,19 @@ mod tests {
     fn amending_and_withdrawing(rt: HostRuntime) -> Result<(), Fail> {
         let mut tape = tape_of(rt.alloc(), &[3, 7])?;
         let nine = Reading::new(9);
-        assert_eq!(rt; number(tape.amend(2, 4, nine)), 8);
-        assert_eq!(rt; number(tape.amend(1, 4, nine)), 6);
-        assert_eq!(rt; number(tape.amend(usize::MAX, 0, nine)), 8);
-        assert_eq!(rt; number(tape.amend(1, 3, nine)), 0);
+        assert_eq!(rt; refusal(tape.amend(2, 4, nine)), Some(8));
+        assert_eq!(rt; refusal(tape.amend(1, 4, nine)), Some(6));
+        assert_eq!(rt; refusal(tape.amend(usize::MAX, 0, nine)), Some(8));
+        assert_eq!(rt; refusal(tape.amend(1, 3, nine)), None);
         assert_eq!(rt;
             (tape.mark(1, 3).to_i32(), tape.mark(0, 3).to_i32()),
             (9, 0)
         );
-        assert_eq!(rt; number(tape.withdraw()), 0);
+        assert_eq!(rt; refusal(tape.withdraw()), None);
         assert_eq!(rt; (tape.points(), tape.mark(0, 0).to_i32()), (1, 3));
         assert_eq!(rt; tape.mark(1, 3).to_i32(), 0);
-        assert_eq!(rt; number(tape.withdraw()), 0);
-        assert_eq!(rt; number(tape.withdraw()), 8);
+        assert_eq!(rt; refusal(tape.withdraw()), None);
+        assert_eq!(rt; refusal(tape.withdraw()), Some(8));
         let rows = tape.into_rows();
         assert_eq!(rt; rows.len(), 8);
         Ok(())
@@ -126,17 +123,17 @@ mod tests {
         let mut rising = Peak::new(Difference::new(tape_of(rt.alloc(), &[3, 7, 5])?, 0), 4);
         assert_eq!(rt; reads(&rising, 5), (4, 4, 4));
         let zero = Reading::new(0);
-        assert_eq!(rt; number(rising.amend(3, 5, zero)), 8);
-        assert_eq!(rt; number(rising.amend(2, 6, zero)), 6);
-        assert_eq!(rt; number(rising.amend(2, 4, zero)), 9);
-        assert_eq!(rt; number(rising.amend(2, 5, zero)), 9);
-        assert_eq!(rt; number(rising.amend(0, 0, Reading::new(9))), 0);
+        assert_eq!(rt; refusal(rising.amend(3, 5, zero)), Some(8));
+        assert_eq!(rt; refusal(rising.amend(2, 6, zero)), Some(6));
+        assert_eq!(rt; refusal(rising.amend(2, 4, zero)), Some(9));
+        assert_eq!(rt; refusal(rising.amend(2, 5, zero)), Some(9));
+        assert_eq!(rt; refusal(rising.amend(0, 0, Reading::new(9))), None);
         assert_eq!(rt; reads(&rising, 4), (-2, -2, 0));
         assert_eq!(rt; reads(&rising, 5), (-2, -2, 0));
-        assert_eq!(rt; number(rising.withdraw()), 0);
+        assert_eq!(rt; refusal(rising.withdraw()), None);
         assert_eq!(rt; reads(&rising, 5), (-2, 0, 0));
-        assert_eq!(rt; number(rising.add(10)), 11);
-        assert_eq!(rt; number(rising.add(11)), 0);
+        assert_eq!(rt; refusal(rising.add(10)), Some(11));
+        assert_eq!(rt; refusal(rising.add(11)), None);
         assert_eq!(rt; reads(&rising, 0), (9, 7, 7));
         Ok(())
     }
@@ -167,8 +164,8 @@ mod tests {
             (over.is_given(3), over.is_given(4), over.is_given(16)),
             (true, false, false),
         )?;
-        same(number(over.amend(0, 16, Reading::new(1))), 6)?;
-        same(number(over.amend(0, 15, Reading::new(1))), 9)
+        same(refusal(over.amend(0, 16, Reading::new(1))), Some(6))?;
+        same(refusal(over.amend(0, 15, Reading::new(1))), Some(9))
     }
 
     fn with_ten<R: Tape<Mark = Reading> + Drop>(below: R) -> Result<(), Fail> {
@@ -184,8 +181,8 @@ mod tests {
     #[test]
     fn far_outside(rt: HostRuntime) -> Result<(), Fail> {
         let mut tape = blank_tape::<Stage>(rt.alloc(), 2)?;
-        assert_eq!(rt; number(tape.add(7)), 0);
-        assert_eq!(rt; number(tape.amend(0, 3, Stage::On)), 0);
+        assert_eq!(rt; refusal(tape.add(7)), None);
+        assert_eq!(rt; refusal(tape.amend(0, 3, Stage::On)), None);
         let peak = Peak::new(tape, 3);
         assert_eq!(rt; (peak.mark(0, 3), peak.mark(0, 4)), (Stage::On, Stage::On));
         assert_eq!(rt;

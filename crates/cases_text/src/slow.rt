@@ -1,13 +1,14 @@
 // A slow reader that goes by what docs/RULES.md says of each byte, and both readers on many texts.
 ghost use Rattle.std.specs.Prelude.{◌≤◌};
 
+use arrayvec::ArrayVec;
 use rule::Rule;
 use scale::{Reading, Scale, ScaleFault};
 use std::test::Fail;
 use text::TextFault;
 
 // What the bytes so far end with.
-#[derive(Clone, Copy)]
+#[derive(Clone, Copy, PartialEq, Eq)]
 enum Seen {
     Nothing,
     Letter,
@@ -26,10 +27,8 @@ enum Seen {
 struct Scan {
     seen: Seen,
     // Of each bracket that is open, whether it is around a left operand.
-    lefts: [bool; 12],
-    depth: usize,
+    lefts: ArrayVec<bool, 12>,
     met: usize,
-    ghost bounded: { depth ≤ 12 },
     ghost counted: { met ≤ 24 },
 }
 
@@ -52,10 +51,7 @@ fn follows(seen: Seen, byte: u8) -> Option<Seen> {
 }
 
 fn in_run(byte: u8) -> bool {
-    match byte {
-        b'a'..=b'z' | b'0'..=b'9' | b'-' => true,
-        _ => false,
-    }
+    matches!(byte, b'a'..=b'z' | b'0'..=b'9' | b'-')
 }
 
 // Whether a part is met at a byte, from the byte before it.
@@ -72,8 +68,7 @@ impl Scan {
     fn new() -> Scan {
         Scan {
             seen: Seen::Nothing,
-            lefts: [false; 12],
-            depth: 0,
+            lefts: ArrayVec::new(),
             met: 0,
         }
     }
@@ -84,33 +79,27 @@ impl Scan {
             Seen::Operator => false,
             _ => return Err(TextFault::Form { place }),
         };
-        if self.depth == 12 {
-            return Err(TextFault::Brackets { place });
-        }
-        self.lefts[self.depth] = left;
-        self.depth += 1;
+        self.lefts
+            .try_push(left)
+            .map_err(|_| TextFault::Brackets { place })?;
         self.seen = Seen::Nothing;
         Ok(())
     }
 
     fn close(&mut self, place: usize) -> Result<(), TextFault> {
-        if !self.is_whole() || self.depth == 0 {
+        if !self.is_whole() {
             return Err(TextFault::Form { place });
         }
-        self.depth -= 1;
-        self.seen = if self.lefts[self.depth] {
-            Seen::LeftOperand
-        } else {
-            Seen::Formula
+        self.seen = match self.lefts.pop() {
+            Some(true) => Seen::LeftOperand,
+            Some(false) => Seen::Formula,
+            None => return Err(TextFault::Form { place }),
         };
         Ok(())
     }
 
     fn is_whole(&self) -> bool {
-        match self.seen {
-            Seen::Run | Seen::Formula => true,
-            _ => false,
-        }
+        self.seen == Seen::Run || self.seen == Seen::Formula
     }
 
     // The faults of one byte, the lowest number first.
@@ -135,12 +124,10 @@ impl Scan {
 
 // The run that the bytes begin with.
 fn run_of(bytes: &[u8]) -> &[u8] {
-    for end in 0..bytes.len() {
-        if !in_run(bytes[end]) {
-            return &bytes[..end];
-        }
+    match bytes.iter().position(|byte| !in_run(*byte)) {
+        Some(end) => &bytes[..end],
+        None => bytes,
     }
-    bytes
 }
 
 // Whether a run is a limit, a channel or a reading.
@@ -159,8 +146,7 @@ fn slow(text: &[u8]) -> Result<(), TextFault> {
     }
     let mut scan = Scan::new();
     let mut before = b'(';
-    for place in 0..text.len() {
-        let byte = text[place];
+    for (place, byte) in text.iter().copied().enumerate() {
         scan.take(before, byte, place)?;
         let signed = before == b'<' || before == b'>' || before == b'=';
         if signed && in_run(byte) && !is_read(run_of(&text[place..])) {
@@ -168,7 +154,7 @@ fn slow(text: &[u8]) -> Result<(), TextFault> {
         }
         before = byte;
     }
-    if scan.is_whole() && scan.depth == 0 {
+    if scan.is_whole() && scan.lefts.is_empty() {
         Ok(())
     } else {
         Err(TextFault::Form { place: text.len() })

@@ -1,8 +1,8 @@
 // The solver's list against truth, on every choice of a small grid.
 use crate::dice::Dice;
 use crate::truths::{Marks, POINTS, Truths};
-use domain::Domain;
-use formula::{Formula, MAX_PARTS, Part};
+use domain::{Choice, Domain};
+use formula::{MAX_PARTS, Part};
 use recording::Tape;
 use rows::{Row, RowTape};
 use scale::Reading;
@@ -31,68 +31,45 @@ fn tape_of_four(heap: Global) -> Result<RowTape<Reading>, AllocError> {
 
 // New marks for the first three channels, on the tape and in the table.
 fn shuffle(dice: &mut Dice, tape: &mut RowTape<Reading>, marks: &mut Marks) {
-    for point in 0..POINTS {
-        let reads = [dice.small(), dice.small(), dice.small()];
-        let _ = tape.amend(point, 0, Reading::new(reads[0]));
-        let _ = tape.amend(point, 1, Reading::new(reads[1]));
-        let _ = tape.amend(point, 2, Reading::new(reads[2]));
-        marks[point] = reads;
-    }
-}
-
-// Whether list and truth agree on one choice of limits.
-fn agree(
-    domain: &Domain<Reading>,
-    parts: &[Part<Reading>],
-    marks: Marks,
-    point: usize,
-    limits: [i32; 3],
-) -> bool {
-    let mut truths = Truths {
-        rows: [[false; POINTS]; MAX_PARTS],
-        marks,
-        limits,
-    };
-    truths.fill(parts);
-    let covered = domain.covers(
-        Reading::new(limits[0]),
-        Reading::new(limits[1]),
-        Reading::new(limits[2]),
-    );
-    covered == truths.at(parts.len().saturating_sub(1), point)
-}
-
-fn agree_for(
-    domain: &Domain<Reading>,
-    parts: &[Part<Reading>],
-    marks: Marks,
-    point: usize,
-    p: i32,
-    q: i32,
-) -> bool {
-    for r in LOWEST..PAST_HIGHEST {
-        if !agree(domain, parts, marks, point, [p, q, r]) {
-            return false;
+    for (point, reads) in marks.iter_mut().enumerate() {
+        *reads = [dice.small(), dice.small(), dice.small()];
+        for (channel, value) in reads.iter().enumerate() {
+            let _ = tape.amend(point, channel, Reading::new(*value));
         }
     }
-    true
 }
 
-// On every choice of the grid.
-fn agree_everywhere(
-    domain: &Domain<Reading>,
-    formula: &Formula<Reading>,
+// A list that a formula was solved to at a point.
+#[derive(Drop)]
+struct Solved<'a> {
+    domain: &'a Domain<Reading>,
+    parts: &'a [Part<Reading>],
     marks: Marks,
     point: usize,
-) -> bool {
-    for p in LOWEST..PAST_HIGHEST {
-        for q in LOWEST..PAST_HIGHEST {
-            if !agree_for(domain, formula.parts(), marks, point, p, q) {
-                return false;
-            }
-        }
+}
+
+impl Solved<'_> {
+    // Whether list and truth agree on one choice of limits.
+    fn agrees(&self, limits: [i32; 3]) -> bool {
+        let mut truths = Truths {
+            rows: [[false; POINTS]; MAX_PARTS],
+            marks: self.marks,
+            limits,
+        };
+        truths.fill(self.parts);
+        let [p, q, r] = limits.map(Reading::new);
+        let covered = self.domain.covers(Choice { p, q, r });
+        covered == truths.at(self.parts.len().saturating_sub(1), self.point)
     }
-    true
+
+    fn agrees_for(&self, p: i32, q: i32) -> bool {
+        (LOWEST..PAST_HIGHEST).all(|r| self.agrees([p, q, r]))
+    }
+
+    // On every choice of the grid.
+    fn agrees_everywhere(&self) -> bool {
+        (LOWEST..PAST_HIGHEST).all(|p| (LOWEST..PAST_HIGHEST).all(|q| self.agrees_for(p, q)))
+    }
 }
 
 #[test]
@@ -109,7 +86,13 @@ fn lists_agree_with_truth(rt: HostRuntime) -> Result<(), Fail> {
         let formula = dice.formula(heap)?;
         let point = dice.roll(4) as usize;
         if solver.solve(&tape, &formula, point, &mut domain).is_ok() {
-            assert!(rt; agree_everywhere(&domain, &formula, marks, point));
+            let solved_to = Solved {
+                domain: &domain,
+                parts: formula.parts(),
+                marks,
+                point,
+            };
+            assert!(rt; solved_to.agrees_everywhere());
             solved = solved.saturating_add(1);
         }
     }

@@ -20,12 +20,7 @@ impl Dice {
 
     // A number from 0 to 3.
     pub(crate) fn small(&mut self) -> i32 {
-        match self.roll(4) {
-            0 => 0,
-            1 => 1,
-            2 => 2,
-            _ => 3,
-        }
+        i32::try_from(self.roll(4)).unwrap_or(0)
     }
 
     fn comparator(&mut self) -> Comparator {
@@ -106,14 +101,16 @@ impl Dice {
         let mut alone: Vec<usize> = Vec::new(heap);
         for _ in 0..8 {
             let part = self.part(&mut alone);
-            alone.push(formula.len())?;
-            formula.push(part);
+            if let Ok(number) = formula.push(part) {
+                alone.push(number)?;
+            }
         }
         for _ in 0..8 {
             if let Some(right) = alone.pop() {
                 if let Some(left) = alone.pop() {
-                    alone.push(formula.len())?;
-                    formula.push(self.binary(left, right));
+                    if let Ok(number) = formula.push(self.binary(left, right)) {
+                        alone.push(number)?;
+                    }
                 }
             }
         }

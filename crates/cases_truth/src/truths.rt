@@ -1,6 +1,7 @@
 // Truth worked out from its definition: at each place, of each part, with three marks in the place of the limits.
-use formula::{BinaryOperator, Comparator, LimitName, MAX_PARTS, Operand, Part, UnaryOperator};
+use formula::{BinaryOperator, Comparator, MAX_PARTS, Operand, Part, UnaryOperator};
 use scale::Reading;
+use std::array;
 
 pub(crate) const POINTS: usize = 4;
 
@@ -23,24 +24,13 @@ impl Truths {
     }
 
     fn mark(&self, point: usize, channel: usize) -> i32 {
-        if point < POINTS && channel < 3 {
-            self.marks[point][channel]
-        } else {
-            0
-        }
-    }
-
-    fn limit(&self, limit: LimitName) -> i32 {
-        match limit {
-            LimitName::P => self.limits[0],
-            LimitName::Q => self.limits[1],
-            LimitName::R => self.limits[2],
-        }
+        let channels = self.marks.get(point).copied().unwrap_or([0; 3]);
+        channels.get(channel).copied().unwrap_or(0)
     }
 
     fn value(&self, point: usize, operand: Operand<Reading>) -> i32 {
         match operand {
-            Operand::Limit(limit) => self.limit(limit),
+            Operand::Limit(limit) => self.limits[limit.index()],
             Operand::Channel(channel) => self.mark(point, channel),
             Operand::Constant(mark) => mark.to_i32(),
         }
@@ -48,45 +38,23 @@ impl Truths {
 
     // At some place from here on.
     fn sometime(&self, part: usize, from: usize) -> bool {
-        for at in from..POINTS {
-            if self.at(part, at) {
-                return true;
-            }
-        }
-        false
+        (from..POINTS).any(|at| self.at(part, at))
     }
 
     // At all places from here to before the end given.
     fn throughout(&self, part: usize, from: usize, end: usize) -> bool {
-        for at in from..end {
-            if !self.at(part, at) {
-                return false;
-            }
-        }
-        true
+        (from..end).all(|at| self.at(part, at))
     }
 
     // The right at some place, and the left at all before it.
     fn until(&self, left: usize, right: usize, from: usize) -> bool {
-        for at in from..POINTS {
-            if self.at(right, at) && self.throughout(left, from, at) {
-                return true;
-            }
-        }
-        false
+        (from..POINTS).any(|at| self.at(right, at) && self.throughout(left, from, at))
     }
 
     // The left at all places, or up to one where the right is true too.
     fn weak_until(&self, left: usize, right: usize, from: usize) -> bool {
-        if self.throughout(left, from, POINTS) {
-            return true;
-        }
-        for at in from..POINTS {
-            if self.at(right, at) && self.throughout(left, from, at + 1) {
-                return true;
-            }
-        }
-        false
+        self.throughout(left, from, POINTS)
+            || (from..POINTS).any(|at| self.at(right, at) && self.throughout(left, from, at + 1))
     }
 
     fn unary(&self, operator: UnaryOperator, operand: usize, point: usize) -> bool {
@@ -134,19 +102,17 @@ impl Truths {
     }
 
     // One part at every point.
-    fn fill_row(&mut self, part: Part<Reading>, number: usize) {
-        for point in 0..POINTS {
-            let value = self.of(part, point);
-            if number < MAX_PARTS {
-                self.rows[number][point] = value;
-            }
-        }
+    fn row(&self, part: Part<Reading>) -> [bool; POINTS] {
+        array::from_fn(|point| self.of(part, point))
     }
 
     // Every part at every point, operands first.
     pub(crate) fn fill(&mut self, parts: &[Part<Reading>]) {
-        for number in 0..parts.len() {
-            self.fill_row(parts[number], number);
+        for (number, part) in parts.iter().enumerate() {
+            let row = self.row(*part);
+            if let Some(place) = self.rows.get_mut(number) {
+                *place = row;
+            }
         }
     }
 }

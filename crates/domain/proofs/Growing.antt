@@ -1,7 +1,7 @@
 -- What one turn of a loop over boxes does to the list. Assumes nothing.
-use Rattle.std.proofs.Common.{◌≡◌, ℕ, suc, ◌+◌, ◌<◌, ◌≤◌, Bool, true, false, cond, ◌||◌, ltb, List, [], ◌∷◌, ◌++◌, length, get_or, take, drop, set, Ok, Err, vec_items, vec_len, Result, sym, refl, ap, ◌∙◌, append_assoc, arith}
+use Rattle.std.proofs.Common.{◌≡◌, ℕ, suc, ◌+◌, ◌<◌, ◌≤◌, Bool, true, false, cond, ◌||◌, ltb, List, [], ◌∷◌, ◌++◌, length, get_or, drop, filter, not, Ok, Err, vec_items, vec_len, Result, sym, refl, ap, ◌∙◌, arith}
 use lib.ListN.{length-map}
-use Rattle.std.proofs.lemmas.List.{drop_more, drop_all, drop-map, drop-set-lt, take_more_set}
+use Rattle.std.proofs.lemmas.List.{drop_more, drop_all, drop-map}
 use Rattle.std.proofs.lemmas.Bool.Decides.{nat_tests}
 use Rattle.domain.specs.declared.lists.Domain.{Domain}
 use Rattle.domain.specs.declared.lists.Full.{Full}
@@ -9,9 +9,6 @@ use Rattle.domain.specs.declared.shapes.Orthotope.{Orthotope}
 use Rattle.domain.specs.Added.{Boxes, Sides, Outcome, some_contains, outside, added, joined, and_then}
 use Rattle.domain.specs.Boxes.{sides_of, contains_box, empty_box}
 use Rattle.domain.specs.Listed.{sides_in, boxes_of, reached}
-
-pub length_sides : {S : Type 0} (bs : List (Orthotope S)) → length (sides_in bs) ≡ length bs
-length_sides bs = length-map bs sides_of
 
 pub length_boxes : {S : Type 0} (d : Domain S) → length (boxes_of d) ≡ vec_len d.boxes
 length_boxes d = length-map (vec_items d.boxes) sides_of ∙ sym d.boxes.ok.0
@@ -34,19 +31,12 @@ module _ {S : Type 0} (rank : S → ℕ) where
   pub some_step : (x : Bool) (b : Sides S) (ys rest : Boxes S) (y : Sides S) → x ≡ some_contains rank ys b → ys ≡ y ∷ rest → x ≡ (contains_box rank y b || some_contains rank rest b)
   some_step x b ys rest y e f = e ∙ ap (λ l. some_contains rank l b) f
 
-  -- a box that b contains leaves
-  pub left_out : (b : Sides S) (all xs rest : Boxes S) (k i : ℕ) (x : Sides S) → all ≡ take k xs ++ outside rank b (drop i xs) → drop i xs ≡ x ∷ rest → contains_box rank b x ≡ true → all ≡ take k xs ++ outside rank b rest
-  left_out b all xs rest k i x e f inside = e ∙ ap (λ l. take k xs ++ outside rank b l) f ∙ ap (λ t. take k xs ++ cond t (outside rank b rest) (x ∷ outside rank b rest)) inside
-
-  -- a box that b does not contain moves up to the ones kept
-  pub kept_on : (b : Sides S) (all xs rest : Boxes S) (k i : ℕ) (x : Sides S) → all ≡ take k xs ++ outside rank b (drop i xs) → drop i xs ≡ x ∷ rest → rest ≡ drop (i + 1) xs → contains_box rank b x ≡ false → k ≤ i → k < length xs → all ≡ take (k + 1) (set xs k x) ++ outside rank b (drop (i + 1) (set xs k x))
-  kept_on b all xs rest k i x e f g apart le within =
-      e
-      ∙ ap (λ l. take k xs ++ outside rank b l) f
-      ∙ ap (λ t. take k xs ++ cond t (outside rank b rest) (x ∷ outside rank b rest)) apart
-      ∙ sym (append_assoc (take k xs) (x ∷ []) (outside rank b rest))
-      ∙ ap (λ l. l ++ outside rank b rest) (sym (take_more_set xs k x within))
-      ∙ ap (λ l. take (k + 1) (set xs k x) ++ outside rank b l) (g ∙ sym (drop-set-lt (i + 1) xs k x (omega arith)))
+  -- what a filter leaves
+  pub outside_filter : (b : Sides S) (bs : List (Orthotope S)) → sides_in (filter (λ x. not (contains_box rank b (sides_of x))) bs) ≡ outside rank b (sides_in bs)
+  outside_filter b [] = refl
+  outside_filter b (x ∷ xs) =
+      let left = filter (λ y. not (contains_box rank b (sides_of y))) xs in
+      elim (contains_box rank b (sides_of x)) as (λ t. sides_in (cond (not t) (x ∷ left) left) ≡ cond t (outside rank b (sides_in xs)) (sides_of x ∷ outside rank b (sides_in xs))) [ true ↦ outside_filter b xs | false ↦ ap (λ l. sides_of x ∷ l) (outside_filter b xs) ]
 
   outside_le : (b : Sides S) (xs : Boxes S) → length (outside rank b xs) ≤ length xs
   outside_le b [] = omega arith
@@ -85,3 +75,17 @@ module _ {S : Type 0} (rank : S → ℕ) where
 
   pub join_ends : (x : Outcome S) (xs ys : Boxes S) → x ≡ joined rank xs ys → ys ≡ [] → Ok xs ≡ x
   join_ends x xs ys e none = sym (e ∙ ap (joined rank xs) none)
+
+  join_append : (xs ys zs : Boxes S) → joined rank xs (ys ++ zs) ≡ and_then (joined rank xs ys) (λ ws. joined rank ws zs)
+  join_append xs [] zs = refl
+  join_append xs (y ∷ ys) zs =
+      elim (added rank xs y) as (λ o. and_then o (λ ws. joined rank ws (ys ++ zs)) ≡ and_then (and_then o (λ ws. joined rank ws ys)) (λ ws. joined rank ws zs)) [ Ok ws ↦ join_append ws ys zs | Err ws ↦ refl ]
+
+  -- some boxes of those to be joined, in the same way
+  pub joins_stop : (x : Outcome S) (xs left ys more rest : Boxes S) (r : Result (Unit {0}) Full) (f : Full) → x ≡ joined rank xs ys → ys ≡ more ++ rest → reached r left ≡ joined rank xs more → r ≡ Err f → Err left ≡ x
+  joins_stop x xs left ys more rest r f e next join err =
+      ap (λ o. and_then o (λ zs. joined rank zs rest)) (ap (λ t. reached t left) (sym err) ∙ join) ∙ sym (join_append xs more rest) ∙ ap (joined rank xs) (sym next) ∙ sym e
+
+  pub joins_go : (x : Outcome S) (xs left ys more rest : Boxes S) (r : Result (Unit {0}) Full) (u : Unit {0}) → x ≡ joined rank xs ys → ys ≡ more ++ rest → reached r left ≡ joined rank xs more → r ≡ Ok u → x ≡ joined rank left rest
+  joins_go x xs left ys more rest r u e next join ok =
+      e ∙ ap (joined rank xs) next ∙ join_append xs more rest ∙ ap (λ o. and_then o (λ zs. joined rank zs rest)) (sym join ∙ ap (λ t. reached t left) ok)

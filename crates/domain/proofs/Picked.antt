@@ -2,12 +2,13 @@
 use Rattle.std.proofs.Common.{◌≡◌, ℕ, zero, suc, true, false, List, [], ◌∷◌, length, drop, is_some, Some, None, Option, refl, ◌∙◌, subst, inl, inr, ⊎_elim, arith}
 use Rattle.scale.specs.declared.cuts.Cut.{Cut}
 use Rattle.scale.specs.Cuts.{Between, Picks}
+use Rattle.domain.specs.declared.shapes.Choice.{Choice}
 use Rattle.domain.specs.declared.shapes.Orthotope.{Orthotope}
 use Rattle.domain.specs.declared.sides.Interval.{Interval}
 use Rattle.domain.specs.Added.{Boxes, Sides}
 use Rattle.domain.specs.Covering.{Covered, In, Wide}
 use Rattle.domain.specs.Listed.{sides_in}
-use Rattle.domain.specs.Picking.{Finds, behind, first_picked, or_else, picks_of, three}
+use Rattle.domain.specs.Picking.{Finds, behind, first_picked, or_else, picks_of, chosen}
 
 -- a domain's boxes have three sides
 pub wide_boxes : {S : Type 0} (bs : List (Orthotope S)) → Wide 3 (sides_in bs)
@@ -15,11 +16,11 @@ wide_boxes [] = tt
 wide_boxes (b ∷ bs) = (refl, wide_boxes bs)
 
 -- a box with picks ends the search, one without leaves it to the others
-pub some_picks : {S : Type 0} (o : Option (S × S × S)) (rest : Option (List S)) → is_some o ≡ true → or_else (three o) rest ≡ three o
+pub some_picks : {S : Type 0} (o : Option (Choice S)) (rest : Option (List S)) → is_some o ≡ true → or_else (chosen o) rest ≡ chosen o
 some_picks None rest e = let z : ◌≡◌ {A = ℕ} 0 1 = cc in absurd (omega arith)
 some_picks (Some m) rest e = refl
 
-pub no_picks : {S : Type 0} (o : Option (S × S × S)) (rest : Option (List S)) → is_some o ≡ false → or_else (three o) rest ≡ rest
+pub no_picks : {S : Type 0} (o : Option (Choice S)) (rest : Option (List S)) → is_some o ≡ false → or_else (chosen o) rest ≡ rest
 no_picks None rest e = refl
 no_picks (Some m) rest e = let z : ◌≡◌ {A = ℕ} 0 1 = cc in absurd (omega arith)
 

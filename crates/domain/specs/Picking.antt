@@ -1,13 +1,17 @@
 -- The marks that are picked from a box and from a list of boxes. Assumes nothing.
 use Rattle.std.specs.Prelude.{◌≡◌, ℕ, List, [], ◌∷◌, length, Some, None, Option}
 use Rattle.scale.specs.declared.cuts.Cut.{Cut}
+use Rattle.domain.specs.declared.shapes.Choice.{Choice}
 use Rattle.domain.specs.Added.{Boxes, Sides}
 use Rattle.domain.specs.Covering.{Covered}
 
--- three marks as a list of them
-abbrev pub three : {S : Type 0} → Option (S × S × S) → Option (List S)
-three None = None
-three (Some (p, q, r)) = Some (p ∷ q ∷ r ∷ [])
+-- the marks of a choice, in the order of the limits
+abbrev pub marks_of : {S : Type 0} → Choice S → List S
+marks_of c = c.p ∷ c.q ∷ c.r ∷ []
+
+abbrev pub chosen : {S : Type 0} → Option (Choice S) → Option (List S)
+chosen None = None
+chosen (Some c) = Some (marks_of c)
 
 module _ {S : Type 0} where
   abbrev pub behind : Option S → Option (List S) → Option (List S)

@@ -1,6 +1,6 @@
 // Domains: adding a box, join and meet, up to the bound.
-ghost use Rattle.std.specs.Prelude.{◌≡◌, ◌≤◌, [], ◌∷◌, length, IfOk, vec_len, nat_lt};
-ghost use Rattle.domain.specs.Boxes.{sides_of};
+ghost use Rattle.std.specs.Prelude.{◌≡◌, ◌≤◌, [], ◌∷◌, map, length, IfOk, vec_len, nat_lt, not};
+ghost use Rattle.domain.specs.Boxes.{contains_box, overlap_box, sides_of};
 ghost use Rattle.domain.specs.Added.{some_contains, outside, added, joined, met};
 ghost use Rattle.domain.specs.Listed.{boxes_of, reached, sides_in};
 
@@ -45,15 +45,13 @@ impl<S: Scale> Domain<S> {
         self.become_list(other.boxes());
     }
 
-    // Becomes the list of the boxes given.
+    // Becomes the list of the boxes given, for which there is room.
     fn become_list(&mut self, boxes: &[Orthotope<S>])
         requires { length boxes.now ≤ 32 }
         ensures { boxes_of self.new ≡ sides_in boxes.now }
     {
         self.boxes.clear();
-        for each in boxes {
-            self.boxes.push_reserved(*each);
-        }
+        self.boxes.extend_from_slice(boxes).unwrap();
     }
 
     // Becomes the one box given.
@@ -64,7 +62,8 @@ impl<S: Scale> Domain<S> {
         self.boxes.push_reserved(only);
     }
 
-    // Whether some box contains this one.
+    // Whether some box contains this one. `any` was tried: of a closure over an
+    // open kind of mark the check knows only what it states, which `contains` states already.
     fn has_container(&self, inner: &Orthotope<S>) -> bool
         ensures { result ≡ some_contains S.rank (boxes_of self.now) (sides_of inner.now) }
     {
@@ -80,15 +79,11 @@ impl<S: Scale> Domain<S> {
     fn drop_contained(&mut self, outer: &Orthotope<S>)
         ensures { boxes_of self.new ≡ outside S.rank (sides_of outer.now) (boxes_of self.old) }
     {
-        let mut count = 0;
-        for i in 0..self.boxes.len() {
-            let b = self.boxes[i];
-            if !outer.contains(&b) {
-                self.boxes[count] = b;
-                count += 1;
-            }
-        }
-        self.boxes.truncate(count);
+        self.boxes.retain(
+            |each| -> bool
+                ensures { result ≡ not (contains_box S.rank (sides_of outer.entry.now) (sides_of each.now)) }
+            { !outer.contains(each) },
+        );
     }
 
     // Whether one box more is not too many.
@@ -143,15 +138,19 @@ impl<S: Scale> Domain<S> {
         ensures { reached result (boxes_of self.new) ≡ met S.rank (boxes_of left.now) (boxes_of right.now) }
     {
         self.boxes.clear();
-        let mut end = Ok(());
-        'pairs: for a in left.boxes.iter() {
-            for b in right.boxes.iter() {
-                end = self.add(a.overlap(b));
-                if end.is_err() {
-                    break 'pairs;
-                }
-            }
+        for each in left.boxes.iter() {
+            self.add_overlaps(each, right)?;
         }
-        end
+        Ok(())
+    }
+
+    // Adds the overlap of one box with each of a domain's, in order.
+    fn add_overlaps(&mut self, one: &Orthotope<S>, boxes: &Domain<S>) -> Result<(), Full>
+        ensures { reached result (boxes_of self.new) ≡ joined S.rank (boxes_of self.old) (map (overlap_box S.rank (sides_of one.now)) (boxes_of boxes.now)) }
+    {
+        for each in boxes.boxes.iter() {
+            self.add(one.overlap(each))?;
+        }
+        Ok(())
     }
 }

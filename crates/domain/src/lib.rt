@@ -12,5 +12,5 @@ mod sides;
 
 pub use laws::lists_cover;
 pub use lists::{Domain, Full, MAX_BOXES};
-pub use shapes::Orthotope;
+pub use shapes::{Choice, Orthotope};
 pub use sides::Interval;

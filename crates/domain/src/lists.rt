@@ -6,7 +6,8 @@ use crate::shapes::Orthotope;
 // How many boxes a domain may have.
 pub const MAX_BOXES: usize = 32;
 
-// A list of boxes: a choice of limits is in the domain if it lies in one of them. All memory is taken when it is made.
+// A list of boxes: a choice of limits is in the domain if it lies in one of them. All memory is taken when it is made. A formula
+// is held in the same way; a type for both would need a contract for each method of a vector that they use.
 #[derive(Drop)]
 pub struct Domain<S> {
     pub(crate) boxes: Vec<Orthotope<S>>,

@@ -1,1 +1,2 @@
+mod Judging
 mod Words

@@ -3,9 +3,7 @@
 
 mod checks;
 mod files;
-mod lent;
 mod records;
 
 pub use checks::check_records;
-pub use files::{Filed, FiledRecording};
-pub use lent::{LentRecords, TimedRecords};
+pub use files::FiledRecording;

@@ -1,2 +1,1 @@
 pub mod Assembling
-pub mod Extends

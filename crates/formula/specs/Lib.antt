@@ -1,4 +1,5 @@
 pub mod Assembly
+pub mod Conversions
 pub mod Formulas
 pub mod Orders
 pub mod Parts

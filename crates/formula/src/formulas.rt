@@ -10,7 +10,9 @@ mod methods;
 // The most parts that a formula can have.
 pub const MAX_PARTS: usize = 24;
 
-// All memory is taken when a formula is made, so no later change can want for it.
+// All memory is taken when a formula is made, so no later change can want for it. A tree of boxes would take it part by part,
+// and the numbers of parts are promised: refusals tell them. It has ghost fields and no model, so that all who hold a formula
+// know of its parts that they are few and in order.
 #[derive(Drop)]
 pub struct Formula<K> {
     parts: Vec<Part<K>>,
@@ -18,3 +20,7 @@ pub struct Formula<K> {
     ghost room: { 24 ≤ vec_capacity parts },
     ghost ordered: { Ordered parts.items },
 }
+
+// Why a part was not taken: there is no room for one more, or an operand does not come before the part.
+#[derive(Clone, Copy, PartialEq, Eq, Debug)]
+pub struct Misplaced;

@@ -4,5 +4,5 @@
 mod formulas;
 mod parts;
 
-pub use formulas::{Formula, MAX_PARTS};
-pub use parts::{BinaryOperator, Comparator, LimitName, Operand, Part, UnaryOperator};
+pub use formulas::{Formula, MAX_PARTS, Misplaced};
+pub use parts::{BinaryOperator, Comparator, Conversion, LimitName, Operand, Part, UnaryOperator};

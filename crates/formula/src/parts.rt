@@ -1,5 +1,6 @@
 // The parts that a formula is made of: comparisons, and operators over parts with lower numbers.
-ghost use Rattle.std.specs.Prelude.{◌≡◌, nat_le};
+ghost use Rattle.std.specs.Prelude.{◌≡◌, Result, nat_le};
+ghost use Rattle.formula.specs.Conversions.{ConvertsOperand, ConvertsPart};
 ghost use Rattle.formula.specs.Orders.{reach};
 ghost use Rattle.formula.specs.Parts.{limit_index, opposed};
 
@@ -16,11 +17,7 @@ impl LimitName {
     pub fn index(self) -> usize
         ensures { result ≡ limit_index self }
     {
-        match self {
-            LimitName::P => 0,
-            LimitName::Q => 1,
-            LimitName::R => 2,
-        }
+        self as usize
     }
 }
 
@@ -53,6 +50,30 @@ pub enum Operand<K> {
     Limit(LimitName),
     Channel(usize),
     Constant(K),
+}
+
+// How constants of one kind are made of those of another, and which are refused.
+pub trait Conversion<K, L> {
+    type Fault;
+
+    // What may be answered for a constant.
+    ghost answers: { Self → K → Result L Self.Fault → Type 0 };
+
+    fn convert(&self, constant: K) -> Result<L, Self::Fault>
+        ensures { answers self.now constant result };
+}
+
+impl<K> Operand<K> {
+    // The operand with its constant converted, if it is one.
+    fn convert<L, C: Conversion<K, L>>(self, by: &C) -> Result<Operand<L>, C::Fault>
+        ensures { ConvertsOperand (C.answers by.now) self result }
+    {
+        match self {
+            Operand::Limit(name) => Ok(Operand::Limit(name)),
+            Operand::Channel(channel) => Ok(Operand::Channel(channel)),
+            Operand::Constant(constant) => Ok(Operand::Constant(by.convert(constant)?)),
+        }
+    }
 }
 
 // `!`, `X`, `F` and `G`.
@@ -102,6 +123,35 @@ impl<K: Copy> Part<K> {
             Part::Comparison { .. } => true,
             Part::Unary { operand, .. } => *operand < number,
             Part::Binary { left, right, .. } => *left < number && *right < number,
+        }
+    }
+}
+
+impl<K> Part<K> {
+    // The part with its constant converted, if it has one.
+    pub fn convert<L, C: Conversion<K, L>>(self, by: &C) -> Result<Part<L>, C::Fault>
+        ensures { ConvertsPart (C.answers by.now) self result }
+    {
+        match self {
+            Part::Comparison {
+                channel,
+                comparator,
+                operand,
+            } => Ok(Part::Comparison {
+                channel,
+                comparator,
+                operand: operand.convert(by)?,
+            }),
+            Part::Unary { operator, operand } => Ok(Part::Unary { operator, operand }),
+            Part::Binary {
+                operator,
+                left,
+                right,
+            } => Ok(Part::Binary {
+                operator,
+                left,
+                right,
+            }),
         }
     }
 }

@@ -3,11 +3,13 @@ ghost use Rattle.std.specs.Prelude.{◌≡◌, ◌<◌, ◌≤◌, ◌++◌, len
 ghost use Rattle.host.specs.Refusals.{refusal_text};
 
 use crate::faults::HostFault;
+use arrayvec::ArrayString;
 use bench::Bench;
 use filed::{FiledRecording, check_records};
+use itoa::Buffer;
 use listing::put;
 use rule::Rule;
-use scale::{Reading, Word};
+use scale::Reading;
 use std::alloc::Global;
 
 // From a rule's text and records of readings to the listing. A refusal leaves the output as it was.
@@ -31,7 +33,7 @@ fn list(
     Ok(bench.print(output)?)
 }
 
-// The listing's length, or minus the number of the refusal.
+// The listing's length, or minus the number of the refusal: one number, as C takes it.
 pub fn stop_limits(heap: Global, text: &[u8], records: &[u8], point: u64, output: &mut [u8]) -> i64
     ensures least { negsuc 98 ≤ℤ result }
     ensures most { result ≤ℤ pos (length output.old) }
@@ -43,20 +45,27 @@ pub fn stop_limits(heap: Global, text: &[u8], records: &[u8], point: u64, output
     }
 }
 
-// Writes `refused N` and a line end, and answers how many bytes that is, or -16 and nothing where there is no room.
+// The text of a refusal by its number. Pushed and not formatted, since `write!` does not promise that there was room.
+fn refusal(number: u32) -> ArrayString<19>
+    ensures { result.bytes ≡ refusal_text number }
+{
+    let mut digits = Buffer::new();
+    let mut text = ArrayString::new();
+    text.push_str("refused ");
+    text.push_str(digits.format(number));
+    text.push_str("\n");
+    text
+}
+
+// Writes `refused N` and a line end, and answers how many bytes that is, or -16 and nothing where there is no room, as C
+// takes it.
 pub fn stop_limits_refusal(number: u32, output: &mut [u8]) -> i64
     ensures room { length (refusal_text number) ≤ length output.old → (result ≡ pos (length (refusal_text number))) × (output.new ≡ refusal_text number ++ drop (length (refusal_text number)) output.old) }
     ensures small { length output.old < length (refusal_text number) → (result ≡ negsuc 15) × (output.new ≡ output.old) }
     ensures short { length (refusal_text number) ≤ 19 }
 {
-    let word = Word::decimal(number);
-    let digits = word.as_bytes();
-    let needed = digits.len() + 9;
-    if output.len() < needed {
-        return -16;
+    match put(output, 0, refusal(number).as_str().as_bytes()) {
+        Ok(length) => length as i64,
+        Err(_) => -16,
     }
-    let mut end = put(output, 0, b"refused ");
-    end = put(output, end, digits);
-    put(output, end, b"\n");
-    needed as i64
 }

@@ -8,13 +8,14 @@ use recording::RecordsFault;
 use std::alloc::AllocError;
 use text::TextFault;
 
-#[derive(Clone, Copy)]
+#[derive(Clone, Copy, PartialEq, Eq, Debug)]
 pub enum HostFault {
     Memory,
     Text(TextFault),
     Bench(BenchFault),
 }
 
+// Each `From` says by `from_gives` what it makes of a fault, which the one that the toolchain derives does not.
 impl From<AllocError> for HostFault {
     ghost from_gives = { λ _ out. out ≡ Memory };
 

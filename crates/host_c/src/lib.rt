@@ -6,7 +6,7 @@ ghost use Rattle.host.specs.Refusals.{refusal_text};
 
 use std::alloc::Global;
 
-// The listing's length, or minus the number of the refusal.
+// The listing's length, or minus the number of the refusal: one number, as C takes it.
 #[unsafe(no_mangle)]
 pub extern "C" fn stop_limits(
     heap: Global,
@@ -22,7 +22,8 @@ pub extern "C" fn stop_limits(
     host::stop_limits(heap, text, records, point, output)
 }
 
-// Writes `refused N` and a line end, and answers how many bytes that is, or -16 and nothing where there is no room.
+// Writes `refused N` and a line end, and answers how many bytes that is, or -16 and nothing where there is no room, as C
+// takes it.
 #[unsafe(no_mangle)]
 pub extern "C" fn stop_limits_refusal(number: u32, output: &mut [u8]) -> i64
     ensures room { length (refusal_text number) ≤ length output.old → (result ≡ pos (length (refusal_text number))) × (output.new ≡ refusal_text number ++ drop (length (refusal_text number)) output.old) }

@@ -1,5 +1,5 @@
 -- The peak one point further, and that it is the last in order.
-use Rattle.std.proofs.Common.{◌≡◌, ℕ, zero, suc, ◌+◌, ◌<◌, ◌≤◌, sym, refl, ap, ◌∙◌, subst, ⊎_elim, add-one, arith}
+use Rattle.std.proofs.Common.{◌≡◌, ℕ, zero, suc, ◌<◌, ◌≤◌, sym, refl, ap, ◌∙◌, subst, ⊎_elim, arith}
 use Rattle.std.proofs.lemmas.Bool.Decides.{nat_tests}
 use Rattle.std.proofs.str.Laws.{order}
 use Rattle.layers.specs.Layers.{layered}
@@ -8,9 +8,6 @@ use Rattle.layers.specs.Peaks.{later, peak, peak_of, LastOf, PeakOver}
 use Rattle.layers.proofs.Overlays.{overlaid, added_mark, rest_added}
 
 module _ {M : Type 0} (rank : M → ℕ) where
-  pub peak_more : (marks : ℕ → M) (i : ℕ) → peak rank marks (i + 1) ≡ later rank (peak rank marks i) (marks (i + 1))
-  peak_more marks i = rw add-one
-
   later_second : (a b : M) → rank a < rank b → later rank a b ≡ b
   later_second a b h = grind (arith, nat_tests)
 

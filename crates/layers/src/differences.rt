@@ -5,11 +5,12 @@ ghost use Rattle.scale.specs.Readings.{held, value_of};
 ghost use Rattle.layers.specs.Differences.{DifferenceOver, difference_of};
 ghost use Rattle.layers.specs.Layers.{told_by};
 
-use crate::layers::{Layer, Working};
+use crate::held::Layer;
+use crate::layers::Working;
 use recording::Recording;
 use scale::{Reading, Scale};
 
-// The channel whose differences are worked out.
+// The channel whose differences are worked out. The type says how, as that of a peak does.
 #[derive(Clone, Copy)]
 pub struct DifferenceOf {
     channel: usize,
@@ -57,7 +58,6 @@ impl<R: Recording<Mark = Reading>> Layer<R, DifferenceOf> {
     pub fn new(below: R, channel: usize) -> Difference<R>
         ensures below { result.below ≡ below }
         ensures channel { result.working.channel ≡ channel }
-        ensures number { result.number ≡ (R.meaning below).channels }
         ensures differences { DifferenceOver channel (R.meaning below) (told_by (held (pos 0)) R.meaning (λ s. difference_of s.channel) result) }
     {
         Layer::over(below, DifferenceOf::at(channel))

@@ -2,9 +2,11 @@
 #![tactic(auto)]
 
 mod differences;
+mod held;
 mod layers;
 mod peaks;
 
 pub use differences::{Difference, DifferenceOf};
-pub use layers::{Layer, Working};
+pub use held::Layer;
+pub use layers::Working;
 pub use peaks::{Peak, PeakOf};

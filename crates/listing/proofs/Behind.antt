@@ -1,5 +1,5 @@
 -- Text put behind text, as far as there is room. Assumes nothing.
-use Rattle.std.proofs.Common.{◌≡◌, ℕ, zero, suc, ◌+◌, ◌-◌, ◌≤◌, min, List, [], ◌∷◌, ◌++◌, length, take, sym, refl, ap, ◌∙◌, ⊎_elim, append_assoc, arith, length-take-le, take_all, take_at}
+use Rattle.std.proofs.Common.{◌≡◌, ℕ, zero, suc, ◌+◌, min, List, [], ◌∷◌, ◌++◌, length, take, Ok, Err, IsOk, OnOk, Result, sym, refl, ap, ◌∙◌, ⊎_elim, append_assoc, arith, take_all}
 use lib.Seq.{take-append-add}
 use Rattle.std.proofs.str.Laws.{order}
 use Rattle.listing.specs.Held.{behind}
@@ -21,15 +21,13 @@ front bs n k is =
     (λ most. ap (λ m. take m bs) (let same : k ≡ n = omega (arith, most) in same))
     (order (length bs) n)
 
--- what stands from the end of the text on is the text's front that has room
-pub pushed : (held rest bs part : List ℕ) (len count : ℕ) → len ≤ length held → len ≤ 4096 → count ≡ min (length bs) (4096 - len) → part ≡ take count bs → take (len + count) (take len held ++ (part ++ rest)) ≡ behind (take len held) bs
-pushed held rest bs part len count within fits few is =
-    let t = take len held in
-    let long : length t ≡ len = length-take-le len held within in
-    let all : 4096 ≡ length t + (4096 - len) = omega arith in
-    let part_long : length part ≡ count = ap length is ∙ length-take-le count bs (omega arith) in
-    ap (λ n. take (n + count) (t ++ (part ++ rest))) (sym long)
-    ∙ take-append-add t (part ++ rest) count
-    ∙ ap (λ (l : List ℕ). t ++ l) (take_at part rest count part_long ∙ is ∙ front bs (4096 - len) count few)
-    ∙ sym (take-append-add t bs (4096 - len))
-    ∙ ap (λ n. take n (t ++ bs)) (sym all)
+-- what is put behind the text is the front that has room
+pub pushed : (t bs : List ℕ) (room count : ℕ) → room + length t ≡ 4096 → count ≡ min (length bs) room → t ++ take count bs ≡ behind t bs
+pushed t bs room count all few =
+    ap (λ (l : List ℕ). t ++ l) (front bs room count few)
+    ∙ sym (take-append-add t bs room)
+    ∙ ap (λ n. take n (t ++ bs)) (let same : length t + room ≡ 4096 = omega (arith, all) in same)
+
+pub taken : {T E : Type 0} (r : Result T E) (P : Type 0) → IsOk r → OnOk r P → P
+taken (Ok t) P good h = h
+taken (Err e) P good h = let z : ◌≡◌ {A = ℕ} 0 1 = cc in absurd (omega arith)

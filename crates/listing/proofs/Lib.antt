@@ -1,4 +1,3 @@
 pub mod Behind
 pub mod Lines
 pub mod Telling
-pub mod Writing

@@ -3,13 +3,14 @@ use Rattle.std.proofs.Common.{◌≡◌, ℕ, ◌+◌, ◌*◌, ◌≤◌, Bool,
 use Rattle.std.specs.List.{AllByRecursion}
 use Rattle.std.proofs.lemmas.Fmt.{length-decimal-le}
 use Rattle.scale.specs.declared.cuts.Cut.{Cut}
-use Rattle.scale.specs.declared.cuts.Cut.TheVariants.{LowerEnd, Below, Above, UpperEnd}
+use Rattle.scale.specs.declared.cuts.Cut.TheVariants.{LowerEnd, At, UpperEnd}
+use Rattle.scale.specs.declared.cuts.Side.TheVariants.{Below, Above}
 use Rattle.scale.specs.Marks.{RunText}
 use Rattle.domain.specs.declared.sides.Interval.{Interval}
 use Rattle.domain.specs.Added.{Boxes, Sides}
-use Rattle.listing.specs.Growing.{boxed, compared, ended, headed, lined, lowered, sided, uppered}
+use Rattle.listing.specs.Growing.{bounded, boxed, compared, ended, headed, lined, sided, uppered}
 use Rattle.listing.specs.Held.{State, behind}
-use Rattle.listing.specs.Listings.{comparison, comparisons, further, joined, line, lines, listing_text, lowers, names, uppers}
+use Rattle.listing.specs.Listings.{bounds, comparison, comparisons, further, joined, line, lines, listing_text, lowers, names, uppers}
 use Rattle.listing.proofs.Behind.{behind_both}
 
 -- comparisons that follow on a line, begun or not, and whether it is begun then
@@ -69,23 +70,17 @@ module _ {S : Type 0} (text : S → List ℕ) where
       ∙ ap (λ (l : List ℕ). (l, true)) (three t (a ++ codes ",") name sign (text m))
       ∙ ap (λ (l : List ℕ). (behind t l, true)) (append_assoc a (codes ",") (comparison text name sign m ++ []))
 
-  lowered_is : (t a : List ℕ) (f : Bool) (name : List ℕ) (c : Cut S) → lowered text (behind t a, f) name c ≡ grown t a f (lowers text name c)
-  lowered_is t a f name LowerEnd = grown_none t a f
-  lowered_is t a f name (Below m) = compared_is t a f name (codes ">=") m
-  lowered_is t a f name (Above m) = compared_is t a f name (codes ">") m
-  lowered_is t a f name UpperEnd = grown_none t a f
-
-  uppered_is : (t a : List ℕ) (f : Bool) (name : List ℕ) (c : Cut S) → uppered text (behind t a, f) name c ≡ grown t a f (uppers text name c)
-  uppered_is t a f name LowerEnd = grown_none t a f
-  uppered_is t a f name (Below m) = compared_is t a f name (codes "<") m
-  uppered_is t a f name (Above m) = compared_is t a f name (codes "<=") m
-  uppered_is t a f name UpperEnd = grown_none t a f
+  bounded_is : (below above t a : List ℕ) (f : Bool) (name : List ℕ) (c : Cut S) → bounded text below above (behind t a, f) name c ≡ grown t a f (bounds text below above name c)
+  bounded_is below above t a f name LowerEnd = grown_none t a f
+  bounded_is below above t a f name (At m Below) = compared_is t a f name below m
+  bounded_is below above t a f name (At m Above) = compared_is t a f name above m
+  bounded_is below above t a f name UpperEnd = grown_none t a f
 
   sided_is : (t a : List ℕ) (f : Bool) (name : List ℕ) (i : Interval S) → sided text (behind t a, f) name i ≡ grown t a f (lowers text name i.lower ++ uppers text name i.upper)
   sided_is t a f name i =
       let ls = lowers text name i.lower in
-      ap (λ (s : State). uppered text s name i.upper) (lowered_is t a f name i.lower)
-      ∙ uppered_is t (a ++ tail f ls) (more f ls) name i.upper
+      ap (λ (s : State). uppered text s name i.upper) (bounded_is (codes ">=") (codes ">") t a f name i.lower)
+      ∙ bounded_is (codes "<") (codes "<=") t (a ++ tail f ls) (more f ls) name i.upper
       ∙ grown_append t a f ls (uppers text name i.upper)
 
   boxed_is : (t a : List ℕ) (f : Bool) (ns : List (List ℕ)) (b : Sides S) → boxed text (behind t a, f) ns b ≡ grown t a f (comparisons text ns b)
@@ -134,17 +129,11 @@ module _ {S : Type 0} (text : S → List ℕ) where
     one_short : (name sign : List ℕ) (m : S) → length name ≤ 1 → length sign ≤ 2 → length (further (comparison text name sign m ∷ [])) ≤ 20
     one_short name sign m h k = omega (arith, comparison_short name sign m h k, ap length (append-nil (comparison text name sign m)))
 
-    lowers_short : (name : List ℕ) (c : Cut S) → length name ≤ 1 → length (further (lowers text name c)) ≤ 20
-    lowers_short name LowerEnd h = omega arith
-    lowers_short name (Below m) h = one_short name (codes ">=") m h (omega arith)
-    lowers_short name (Above m) h = one_short name (codes ">") m h (omega arith)
-    lowers_short name UpperEnd h = omega arith
-
-    uppers_short : (name : List ℕ) (c : Cut S) → length name ≤ 1 → length (further (uppers text name c)) ≤ 20
-    uppers_short name LowerEnd h = omega arith
-    uppers_short name (Below m) h = one_short name (codes "<") m h (omega arith)
-    uppers_short name (Above m) h = one_short name (codes "<=") m h (omega arith)
-    uppers_short name UpperEnd h = omega arith
+    bounds_short : (below above name : List ℕ) (c : Cut S) → length below ≤ 2 → length above ≤ 2 → length name ≤ 1 → length (further (bounds text below above name c)) ≤ 20
+    bounds_short below above name LowerEnd k l h = omega arith
+    bounds_short below above name (At m Below) k l h = one_short name below m h k
+    bounds_short below above name (At m Above) k l h = one_short name above m h l
+    bounds_short below above name UpperEnd k l h = omega arith
 
     box_short : (ns : List (List ℕ)) (b : Sides S) → AllByRecursion (λ n. length n ≤ 1) ns → length (further (comparisons text ns b)) ≤ 40 * length ns
     box_short [] b h = omega arith
@@ -153,7 +142,7 @@ module _ {S : Type 0} (text : S → List ℕ) where
         let ls = lowers text n i.lower in
         let us = uppers text n i.upper in
         let rest = comparisons text ns b in
-        omega (arith, ap length (further_append ls (us ++ rest)), length-append (further ls) (further (us ++ rest)), ap length (further_append us rest), length-append (further us) (further rest), lowers_short n i.lower h.0, uppers_short n i.upper h.0, box_short ns b h.1)
+        omega (arith, ap length (further_append ls (us ++ rest)), length-append (further ls) (further (us ++ rest)), ap length (further_append us rest), length-append (further us) (further rest), bounds_short (codes ">=") (codes ">") n i.lower (omega arith) (omega arith) h.0, bounds_short (codes "<") (codes "<=") n i.upper (omega arith) (omega arith) h.0, box_short ns b h.1)
 
     joined_short : (xs : List (List ℕ)) → length (joined xs) ≤ 3 + length (further xs)
     joined_short [] = omega arith

@@ -5,7 +5,8 @@ use Rattle.std.proofs.lemmas.Fmt.{decimal_by_steps}
 use Rattle.std.proofs.ByRecursion.{All-append, All-push, All-weaker}
 use Rattle.std.proofs.lemmas.Bool.Decides.{nat_tests}
 use Rattle.scale.specs.declared.cuts.Cut.{Cut}
-use Rattle.scale.specs.declared.cuts.Cut.TheVariants.{LowerEnd, Below, Above, UpperEnd}
+use Rattle.scale.specs.declared.cuts.Cut.TheVariants.{LowerEnd, At, UpperEnd}
+use Rattle.scale.specs.declared.cuts.Side.TheVariants.{Below, Above}
 use Rattle.scale.specs.Cuts.{place}
 use Rattle.scale.specs.Marks.{Apart, RunByte, RunText}
 use Rattle.domain.specs.declared.sides.Interval.{Interval}
@@ -13,7 +14,7 @@ use Rattle.domain.specs.Added.{Boxes, Sides}
 use Rattle.domain.specs.Boxes.{empty_box}
 use Rattle.domain.specs.Sides.{empty_side}
 use Rattle.listing.specs.Apart.{ListingsApart}
-use Rattle.listing.specs.Listings.{comparison, comparisons, further, joined, line, lines, lowers, names, uppers}
+use Rattle.listing.specs.Listings.{bounds, comparison, comparisons, further, joined, line, lines, lowers, names, uppers}
 
 never : {A : Type 0} {x : A} {xs : List A} → [] ≡ x ∷ xs → ⊥
 never {A} {x} {xs} e = let z : 0 ≡ suc (length xs) = ap length e in omega arith
@@ -133,17 +134,11 @@ module _ {S : Type 0} (rank : S → ℕ) (text : S → List ℕ) (fit : (m : S) 
   piece : (c : ℕ) (sign : List ℕ) (m : S) → 98 ≤ c → AllByRecursion Plain sign → Piece (comparison text (single c) sign m)
   piece c sign m h p = (h, (omega arith, All-append Plain sign (text m) p (All-weaker RunByte Plain run_plain (text m) (run m).runs)))
 
-  lower_pieces : (c : ℕ) (l : Cut S) → 98 ≤ c → AllByRecursion Piece (lowers text (single c) l)
-  lower_pieces c LowerEnd h = tt
-  lower_pieces c (Below m) h = (piece c (codes ">=") m h (omega arith, (omega arith, tt)), tt)
-  lower_pieces c (Above m) h = (piece c (codes ">") m h (omega arith, tt), tt)
-  lower_pieces c UpperEnd h = tt
-
-  upper_pieces : (c : ℕ) (u : Cut S) → 98 ≤ c → AllByRecursion Piece (uppers text (single c) u)
-  upper_pieces c LowerEnd h = tt
-  upper_pieces c (Below m) h = (piece c (codes "<") m h (omega arith, tt), tt)
-  upper_pieces c (Above m) h = (piece c (codes "<=") m h (omega arith, (omega arith, tt)), tt)
-  upper_pieces c UpperEnd h = tt
+  bound_pieces : (below above : List ℕ) (c : ℕ) (k : Cut S) → AllByRecursion Plain below → AllByRecursion Plain above → 98 ≤ c → AllByRecursion Piece (bounds text below above (single c) k)
+  bound_pieces below above c LowerEnd p q h = tt
+  bound_pieces below above c (At m Below) p q h = (piece c below m h p, tt)
+  bound_pieces below above c (At m Above) p q h = (piece c above m h q, tt)
+  bound_pieces below above c UpperEnd p q h = tt
 
   all_pieces : (cs : List ℕ) (b : Sides S) → AllByRecursion (λ c. 98 ≤ c) cs → AllByRecursion Piece (comparisons text (map single cs) b)
   all_pieces [] b h = tt
@@ -151,45 +146,39 @@ module _ {S : Type 0} (rank : S → ℕ) (text : S → List ℕ) (fit : (m : S) 
   all_pieces (c ∷ cs) (i ∷ b) h =
       let us = uppers text (single c) i.upper in
       let rest = comparisons text (map single cs) b in
-      All-append Piece (lowers text (single c) i.lower) (us ++ rest) (lower_pieces c i.lower h.0) (All-append Piece us rest (upper_pieces c i.upper h.0) (all_pieces cs b h.1))
+      All-append Piece (lowers text (single c) i.lower) (us ++ rest) (bound_pieces (codes ">=") (codes ">") c i.lower (omega arith, (omega arith, tt)) (omega arith, tt) h.0) (All-append Piece us rest (bound_pieces (codes "<") (codes "<=") c i.upper (omega arith, tt) (omega arith, (omega arith, tt)) h.0) (all_pieces cs b h.1))
 
   -- the comparisons of other names stop those of this one
-  uppers_other : (d c : ℕ) (u : Cut S) (xs : List (List ℕ)) → (c ≡ d → ⊥) → Stops (Starts d) xs → Stops (Starts d) (uppers text (single c) u ++ xs)
-  uppers_other d c LowerEnd xs ne s = s
-  uppers_other d c (Below m) xs ne s = λ h. ne (head_of h)
-  uppers_other d c (Above m) xs ne s = λ h. ne (head_of h)
-  uppers_other d c UpperEnd xs ne s = s
-
-  lowers_other : (d c : ℕ) (l : Cut S) (xs : List (List ℕ)) → (c ≡ d → ⊥) → Stops (Starts d) xs → Stops (Starts d) (lowers text (single c) l ++ xs)
-  lowers_other d c LowerEnd xs ne s = s
-  lowers_other d c (Below m) xs ne s = λ h. ne (head_of h)
-  lowers_other d c (Above m) xs ne s = λ h. ne (head_of h)
-  lowers_other d c UpperEnd xs ne s = s
+  bounds_other : (below above : List ℕ) (d c : ℕ) (k : Cut S) (xs : List (List ℕ)) → (c ≡ d → ⊥) → Stops (Starts d) xs → Stops (Starts d) (bounds text below above (single c) k ++ xs)
+  bounds_other below above d c LowerEnd xs ne s = s
+  bounds_other below above d c (At m Below) xs ne s = λ h. ne (head_of h)
+  bounds_other below above d c (At m Above) xs ne s = λ h. ne (head_of h)
+  bounds_other below above d c UpperEnd xs ne s = s
 
   others_stop : (d : ℕ) (cs : List ℕ) (b : Sides S) → AllByRecursion (λ c. c ≡ d → ⊥) cs → Stops (Starts d) (comparisons text (map single cs) b)
   others_stop d [] b h = tt
   others_stop d (c ∷ cs) [] h = tt
   others_stop d (c ∷ cs) (i ∷ b) h =
       let rest = comparisons text (map single cs) b in
-      lowers_other d c i.lower (uppers text (single c) i.upper ++ rest) h.0 (uppers_other d c i.upper rest h.0 (others_stop d cs b h.1))
+      bounds_other (codes ">=") (codes ">") d c i.lower (uppers text (single c) i.upper ++ rest) h.0 (bounds_other (codes "<") (codes "<=") d c i.upper rest h.0 (others_stop d cs b h.1))
 
   -- an upper comparison stops the lower ones
   upper_stops : (c : ℕ) (u : Cut S) (xs : List (List ℕ)) → Stops (Starts c) xs → Stops (LowerOf c) (uppers text (single c) u ++ xs)
   upper_stops c LowerEnd xs s = lower_stops c xs s
-  upper_stops c (Below m) xs s = λ h. omega (arith, head_of (rest_of h))
-  upper_stops c (Above m) xs s = λ h. omega (arith, head_of (rest_of h))
+  upper_stops c (At m Below) xs s = λ h. omega (arith, head_of (rest_of h))
+  upper_stops c (At m Above) xs s = λ h. omega (arith, head_of (rest_of h))
   upper_stops c UpperEnd xs s = lower_stops c xs s
 
   lowers_start : (c : ℕ) (l : Cut S) → AllByRecursion (LowerOf c) (lowers text (single c) l)
   lowers_start c LowerEnd = tt
-  lowers_start c (Below m) = (refl, tt)
-  lowers_start c (Above m) = (refl, tt)
+  lowers_start c (At m Below) = (refl, tt)
+  lowers_start c (At m Above) = (refl, tt)
   lowers_start c UpperEnd = tt
 
   uppers_start : (c : ℕ) (u : Cut S) → AllByRecursion (Starts c) (uppers text (single c) u)
   uppers_start c LowerEnd = tt
-  uppers_start c (Below m) = (refl, tt)
-  uppers_start c (Above m) = (refl, tt)
+  uppers_start c (At m Below) = (refl, tt)
+  uppers_start c (At m Above) = (refl, tt)
   uppers_start c UpperEnd = tt
 
   -- no text goes on with the second byte of `>=` and `<=`
@@ -199,38 +188,38 @@ module _ {S : Type 0} (rank : S → ℕ) (text : S → List ℕ) (fit : (m : S) 
   lower_same : (c : ℕ) (k l : Cut S) → (k ≡ UpperEnd → ⊥) → (l ≡ UpperEnd → ⊥) → lowers text (single c) k ≡ lowers text (single c) l → k ≡ l
   lower_same c UpperEnd l p q e = absurd (p refl)
   lower_same c LowerEnd LowerEnd p q e = refl
-  lower_same c LowerEnd (Below n) p q e = absurd (never e)
-  lower_same c LowerEnd (Above n) p q e = absurd (never e)
+  lower_same c LowerEnd (At n Below) p q e = absurd (never e)
+  lower_same c LowerEnd (At n Above) p q e = absurd (never e)
   lower_same c LowerEnd UpperEnd p q e = absurd (q refl)
-  lower_same c (Below m) LowerEnd p q e = absurd (never (sym e))
-  lower_same c (Below m) (Below n) p q e = ap Below (apart m n (ap (drop 3) (head_of e)))
-  lower_same c (Below m) (Above n) p q e = absurd (no_sign m n (ap (drop 2) (head_of e)))
-  lower_same c (Below m) UpperEnd p q e = absurd (q refl)
-  lower_same c (Above m) LowerEnd p q e = absurd (never (sym e))
-  lower_same c (Above m) (Below n) p q e = absurd (no_sign n m (sym (ap (drop 2) (head_of e))))
-  lower_same c (Above m) (Above n) p q e = ap Above (apart m n (ap (drop 2) (head_of e)))
-  lower_same c (Above m) UpperEnd p q e = absurd (q refl)
+  lower_same c (At m Below) LowerEnd p q e = absurd (never (sym e))
+  lower_same c (At m Below) (At n Below) p q e = ap (λ k. At k Below) (apart m n (ap (drop 3) (head_of e)))
+  lower_same c (At m Below) (At n Above) p q e = absurd (no_sign m n (ap (drop 2) (head_of e)))
+  lower_same c (At m Below) UpperEnd p q e = absurd (q refl)
+  lower_same c (At m Above) LowerEnd p q e = absurd (never (sym e))
+  lower_same c (At m Above) (At n Below) p q e = absurd (no_sign n m (sym (ap (drop 2) (head_of e))))
+  lower_same c (At m Above) (At n Above) p q e = ap (λ k. At k Above) (apart m n (ap (drop 2) (head_of e)))
+  lower_same c (At m Above) UpperEnd p q e = absurd (q refl)
 
   upper_same : (c : ℕ) (k l : Cut S) → (k ≡ LowerEnd → ⊥) → (l ≡ LowerEnd → ⊥) → uppers text (single c) k ≡ uppers text (single c) l → k ≡ l
   upper_same c LowerEnd l p q e = absurd (p refl)
   upper_same c UpperEnd UpperEnd p q e = refl
-  upper_same c UpperEnd (Below n) p q e = absurd (never e)
-  upper_same c UpperEnd (Above n) p q e = absurd (never e)
+  upper_same c UpperEnd (At n Below) p q e = absurd (never e)
+  upper_same c UpperEnd (At n Above) p q e = absurd (never e)
   upper_same c UpperEnd LowerEnd p q e = absurd (q refl)
-  upper_same c (Below m) UpperEnd p q e = absurd (never (sym e))
-  upper_same c (Below m) (Below n) p q e = ap Below (apart m n (ap (drop 2) (head_of e)))
-  upper_same c (Below m) (Above n) p q e = absurd (no_sign n m (sym (ap (drop 2) (head_of e))))
-  upper_same c (Below m) LowerEnd p q e = absurd (q refl)
-  upper_same c (Above m) UpperEnd p q e = absurd (never (sym e))
-  upper_same c (Above m) (Below n) p q e = absurd (no_sign m n (ap (drop 2) (head_of e)))
-  upper_same c (Above m) (Above n) p q e = ap Above (apart m n (ap (drop 3) (head_of e)))
-  upper_same c (Above m) LowerEnd p q e = absurd (q refl)
+  upper_same c (At m Below) UpperEnd p q e = absurd (never (sym e))
+  upper_same c (At m Below) (At n Below) p q e = ap (λ k. At k Below) (apart m n (ap (drop 2) (head_of e)))
+  upper_same c (At m Below) (At n Above) p q e = absurd (no_sign n m (sym (ap (drop 2) (head_of e))))
+  upper_same c (At m Below) LowerEnd p q e = absurd (q refl)
+  upper_same c (At m Above) UpperEnd p q e = absurd (never (sym e))
+  upper_same c (At m Above) (At n Below) p q e = absurd (no_sign m n (ap (drop 2) (head_of e)))
+  upper_same c (At m Above) (At n Above) p q e = ap (λ k. At k Above) (apart m n (ap (drop 3) (head_of e)))
+  upper_same c (At m Above) LowerEnd p q e = absurd (q refl)
 
   -- a side that is not empty begins before the upper end, and ends behind the lower one
   place_most : (c : Cut S) → place rank c ≤ 2 ^ 33 + 1
   place_most LowerEnd = omega arith
-  place_most (Below m) = omega (arith, fit m)
-  place_most (Above m) = omega (arith, fit m)
+  place_most (At m Below) = omega (arith, fit m)
+  place_most (At m Above) = omega (arith, fit m)
   place_most UpperEnd = omega arith
 
   begins : (i : Interval S) → empty_side rank i ≡ false → i.lower ≡ UpperEnd → ⊥

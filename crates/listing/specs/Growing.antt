@@ -1,7 +1,8 @@
 -- How a listing grows while it is made: each step is put behind what stands. Assumes nothing.
 use Rattle.std.specs.Prelude.{ℕ, true, false, cond, List, [], ◌∷◌, codes, decimal}
 use Rattle.scale.specs.declared.cuts.Cut.{Cut}
-use Rattle.scale.specs.declared.cuts.Cut.TheVariants.{LowerEnd, Below, Above, UpperEnd}
+use Rattle.scale.specs.declared.cuts.Cut.TheVariants.{LowerEnd, At, UpperEnd}
+use Rattle.scale.specs.declared.cuts.Side.TheVariants.{Below, Above}
 use Rattle.domain.specs.declared.sides.Interval.{Interval}
 use Rattle.domain.specs.Added.{Boxes, Sides}
 use Rattle.listing.specs.Held.{State, behind}
@@ -23,17 +24,18 @@ module _ {S : Type 0} (text : S → List ℕ) where
   abbrev pub compared : State → List ℕ → List ℕ → S → State
   compared s name sign m = (behind (behind (behind (separated s) name) sign) (text m), true)
 
+  -- a comparison with a cut's mark, by one sign where the cut is below it and another where it is above; an end adds nothing
+  abbrev pub bounded : List ℕ → List ℕ → State → List ℕ → Cut S → State
+  bounded below above s name (At m Below) = compared s name below m
+  bounded below above s name (At m Above) = compared s name above m
+  bounded below above s name LowerEnd = s
+  bounded below above s name UpperEnd = s
+
   abbrev pub lowered : State → List ℕ → Cut S → State
-  lowered s name (Below m) = compared s name (codes ">=") m
-  lowered s name (Above m) = compared s name (codes ">") m
-  lowered s name LowerEnd = s
-  lowered s name UpperEnd = s
+  lowered = bounded (codes ">=") (codes ">")
 
   abbrev pub uppered : State → List ℕ → Cut S → State
-  uppered s name (Below m) = compared s name (codes "<") m
-  uppered s name (Above m) = compared s name (codes "<=") m
-  uppered s name LowerEnd = s
-  uppered s name UpperEnd = s
+  uppered = bounded (codes "<") (codes "<=")
 
   abbrev pub sided : State → List ℕ → Interval S → State
   sided s name i = uppered (lowered s name i.lower) name i.upper

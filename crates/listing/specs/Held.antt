@@ -3,7 +3,7 @@ use Rattle.std.specs.Prelude.{ℕ, Bool, List, ◌++◌, take}
 use Rattle.listing.specs.declared.held.Listing.{Listing}
 
 abbrev pub text_of : Listing → List ℕ
-text_of l = take l.len l.bytes
+text_of l = l.text.items
 
 -- more text behind what stands; there is room for 4096 bytes
 abbrev pub behind : List ℕ → List ℕ → List ℕ

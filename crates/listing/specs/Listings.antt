@@ -1,7 +1,8 @@
 -- The listing of a list of boxes: `boxes N`, then a line for each box. Assumes nothing.
 use Rattle.std.specs.Prelude.{ℕ, List, [], ◌∷◌, ◌++◌, length, codes, decimal}
 use Rattle.scale.specs.declared.cuts.Cut.{Cut}
-use Rattle.scale.specs.declared.cuts.Cut.TheVariants.{LowerEnd, Below, Above, UpperEnd}
+use Rattle.scale.specs.declared.cuts.Cut.TheVariants.{LowerEnd, At, UpperEnd}
+use Rattle.scale.specs.declared.cuts.Side.TheVariants.{Below, Above}
 use Rattle.domain.specs.Added.{Boxes, Sides}
 
 -- the names of the limits, in the order of a box's sides
@@ -22,19 +23,21 @@ module _ {S : Type 0} (text : S → List ℕ) where
   abbrev pub comparison : List ℕ → List ℕ → S → List ℕ
   comparison name sign m = name ++ (sign ++ text m)
 
-  -- what a lower cut says: below m it lets m in, and above m it does not; an end of the scale says nothing
-  abbrev pub lowers : List ℕ → Cut S → List (List ℕ)
-  lowers name (Below m) = comparison name (codes ">=") m ∷ []
-  lowers name (Above m) = comparison name (codes ">") m ∷ []
-  lowers name LowerEnd = []
-  lowers name UpperEnd = []
+  -- what a cut says of a limit, by one sign where it is below its mark and another where it is above; an end of the scale
+  -- says nothing
+  abbrev pub bounds : List ℕ → List ℕ → List ℕ → Cut S → List (List ℕ)
+  bounds below above name (At m Below) = comparison name below m ∷ []
+  bounds below above name (At m Above) = comparison name above m ∷ []
+  bounds below above name LowerEnd = []
+  bounds below above name UpperEnd = []
 
-  -- what an upper cut says: above m it lets m in, and below m it does not
+  -- a lower cut below m lets m in, and above m it does not
+  abbrev pub lowers : List ℕ → Cut S → List (List ℕ)
+  lowers = bounds (codes ">=") (codes ">")
+
+  -- an upper cut above m lets m in, and below m it does not
   abbrev pub uppers : List ℕ → Cut S → List (List ℕ)
-  uppers name (Below m) = comparison name (codes "<") m ∷ []
-  uppers name (Above m) = comparison name (codes "<=") m ∷ []
-  uppers name LowerEnd = []
-  uppers name UpperEnd = []
+  uppers = bounds (codes "<") (codes "<=")
 
   -- the comparisons of a box: for each limit the lower one, then the upper
   abbrev pub comparisons : List (List ℕ) → Sides S → List (List ℕ)

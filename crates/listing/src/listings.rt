@@ -1,14 +1,14 @@
-// The lines of a listing.
+// The lines of a listing. They are pushed and not formatted, since `write!` does not promise that there was room.
 ghost use Rattle.std.specs.Prelude.{◌≡◌};
 ghost use Rattle.domain.specs.Boxes.{sides_of};
 ghost use Rattle.domain.specs.Listed.{boxes_of, sides_in};
-ghost use Rattle.listing.specs.Growing.{boxed, compared, ended, headed, lined, lowered, separated, sided, uppered};
+ghost use Rattle.listing.specs.Growing.{bounded, boxed, compared, ended, headed, lined, separated, sided};
 ghost use Rattle.listing.specs.Held.{state_of, text_of};
 ghost use Rattle.listing.specs.Listings.{listing_text, names};
 
 use crate::held::Listing;
 use domain::{Domain, Interval, Orthotope};
-use scale::{Cut, Scale, Word};
+use scale::{Cut, Scale, Side, Word};
 
 impl Listing {
     // The heading of this many boxes.
@@ -43,23 +43,16 @@ impl Listing {
         self.begun = true;
     }
 
-    fn push_lower<S: Scale>(&mut self, name: &[u8], cut: Cut<S>)
-        ensures { state_of self.new ≡ lowered S.text (state_of self.old) name.now cut }
+    // A comparison with a cut's mark, by the sign for the side on which the cut is; an end of the scale says nothing.
+    fn push_bound<S: Scale>(&mut self, name: &[u8], cut: Cut<S>, below: &[u8], above: &[u8])
+        ensures { state_of self.new ≡ bounded S.text below.now above.now (state_of self.old) name.now cut }
     {
-        match cut {
-            Cut::Below(mark) => self.push_comparison(name, b">=", mark),
-            Cut::Above(mark) => self.push_comparison(name, b">", mark),
-            Cut::LowerEnd | Cut::UpperEnd => {}
-        }
-    }
-
-    fn push_upper<S: Scale>(&mut self, name: &[u8], cut: Cut<S>)
-        ensures { state_of self.new ≡ uppered S.text (state_of self.old) name.now cut }
-    {
-        match cut {
-            Cut::Below(mark) => self.push_comparison(name, b"<", mark),
-            Cut::Above(mark) => self.push_comparison(name, b"<=", mark),
-            Cut::LowerEnd | Cut::UpperEnd => {}
+        if let Cut::At(mark, side) = cut {
+            let sign = match side {
+                Side::Below => below,
+                Side::Above => above,
+            };
+            self.push_comparison(name, sign, mark);
         }
     }
 
@@ -67,8 +60,8 @@ impl Listing {
     fn push_side<S: Scale>(&mut self, name: &[u8], side: Interval<S>)
         ensures { state_of self.new ≡ sided S.text (state_of self.old) name.now side }
     {
-        self.push_lower(name, side.lower);
-        self.push_upper(name, side.upper);
+        self.push_bound(name, side.lower, b">=", b">");
+        self.push_bound(name, side.upper, b"<", b"<=");
     }
 
     fn end_line(&mut self)

@@ -1,39 +1,26 @@
 // Writing to an output that somebody else owns.
-ghost use Rattle.std.specs.Prelude.{◌≡◌, ◌+◌, ◌-◌, ◌^◌, ◌<◌, min, length};
+ghost use Rattle.std.specs.Prelude.{◌≡◌};
 ghost use Rattle.listing.specs.Held.{text_of};
-ghost use Rattle.listing.specs.Written.{Fronts, Written};
+ghost use Rattle.listing.specs.Written.{Fronts, Puts};
 
 use crate::held::Listing;
 
 // An output is shorter than what is to be written to it.
-#[derive(Clone, Copy)]
+#[derive(Clone, Copy, PartialEq, Eq, Debug)]
 pub struct NoRoom {
     pub needed: usize,
 }
 
-// Writes bytes from a place on, where there is room for all of them, and answers where they end.
-pub fn put(out: &mut [u8], at: usize, bytes: &[u8]) -> usize
-    ensures end { result ≡ min (at + length bytes.now) (2 ^ 64 - 1) }
-    ensures written { Written out.old at bytes.now out.new }
-    ensures refused { length out.old < at + length bytes.now → out.new ≡ out.old }
+// Writes bytes from a place on and answers where they end. Refused, with nothing written, where there is no room for all.
+pub fn put(out: &mut [u8], at: usize, bytes: &[u8]) -> Result<usize, NoRoom>
+    ensures { Puts out.old at bytes.now result out.new }
 {
     let end = at.saturating_add(bytes.len());
-    if end <= out.len() {
-        out[at..end].copy_from_slice(bytes);
+    if out.len() < end {
+        return Err(NoRoom { needed: end });
     }
-    end
-}
-
-// Writes bytes to the front of an output and answers how many they are, or leaves it and says how many.
-fn put_front(out: &mut [u8], bytes: &[u8]) -> Result<usize, NoRoom>
-    ensures { Fronts bytes.now result out.old out.new }
-{
-    let needed = bytes.len();
-    if out.len() < needed {
-        return Err(NoRoom { needed });
-    }
-    put(out, 0, bytes);
-    Ok(needed)
+    out[at..end].copy_from_slice(bytes);
+    Ok(end)
 }
 
 impl Listing {
@@ -41,6 +28,6 @@ impl Listing {
     pub fn print(&self, out: &mut [u8]) -> Result<usize, NoRoom>
         ensures { Fronts (text_of self.now) result out.old out.new }
     {
-        put_front(out, self.as_bytes())
+        put(out, 0, self.as_bytes())
     }
 }

@@ -2,7 +2,8 @@
 ghost use Rattle.std.specs.Prelude.{◌≡◌, false, []};
 ghost use Rattle.listing.specs.Held.{behind, state_of, text_of};
 
-use crate::held::{Listing, MOST_BYTES};
+use crate::held::Listing;
+use arrayvec::ArrayVec;
 
 impl Listing {
     // No text yet.
@@ -10,8 +11,7 @@ impl Listing {
         ensures { state_of result ≡ ([], false) }
     {
         Listing {
-            bytes: [0; MOST_BYTES],
-            len: 0,
+            text: ArrayVec::new(),
             begun: false,
         }
     }
@@ -19,7 +19,7 @@ impl Listing {
     pub fn as_bytes(&self) -> &[u8]
         ensures { result.now ≡ text_of self.now }
     {
-        self.bytes.split_at(self.len).0
+        self.text.as_slice()
     }
 
     // More text, as much of it as there is room for.
@@ -27,9 +27,7 @@ impl Listing {
         ensures text { text_of self.new ≡ behind (text_of self.old) bytes.now }
         ensures begun { self.new.begun ≡ self.old.begun }
     {
-        let count = bytes.len().min(MOST_BYTES - self.len);
-        let end = self.len + count;
-        self.bytes[self.len..end].copy_from_slice(bytes.split_at(count).0);
-        self.len = end;
+        let count = bytes.len().min(self.text.remaining_capacity());
+        let _ = self.text.try_extend_from_slice(&bytes[..count]);
     }
 }

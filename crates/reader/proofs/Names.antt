@@ -11,10 +11,6 @@ pub two_bytes : (xs : List ℕ) (a b : ℕ) → length xs ≡ 2 → get_or xs 0 
 two_bytes [] a b h e f = absurd (omega arith)
 two_bytes (x ∷ xs) a b h e f = let t = one_byte xs b (omega arith) f in cc
 
-pub three_bytes : (xs : List ℕ) (a b d : ℕ) → length xs ≡ 3 → get_or xs 0 0 ≡ a → get_or xs 1 0 ≡ b → get_or xs 2 0 ≡ d → a ∷ b ∷ d ∷ [] ≡ xs
-three_bytes [] a b d h e f g = absurd (omega arith)
-three_bytes (x ∷ xs) a b d h e f g = let t = two_bytes xs b d (omega arith) f g in cc
-
 pub low_name : (x : ℕ) → 48 ≤ x → x ≤ 57 → channel_name (x - 48) ≡ 99 ∷ x ∷ []
 low_name x h k = search rules
 

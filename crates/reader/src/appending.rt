@@ -3,7 +3,7 @@ ghost use Rattle.std.specs.Prelude.{◌≡◌, [], ◌∷◌, ◌++◌, length};
 ghost use Rattle.formula.specs.Formulas.{parts_of};
 ghost use Rattle.formula.specs.Orders.{Fits};
 
-use formula::{BinaryOperator, Formula, Part};
+use formula::{Formula, Part};
 
 // Adds a part after the others, where it fits, and answers its number.
 pub(crate) fn append<K: Copy>(out: &mut Formula<K>, part: Part<K>) -> usize
@@ -11,28 +11,5 @@ pub(crate) fn append<K: Copy>(out: &mut Formula<K>, part: Part<K>) -> usize
     ensures items { parts_of out.new ≡ parts_of out.old ++ part ∷ [] }
     ensures value { result ≡ length (parts_of out.old) }
 {
-    let number = out.len();
-    out.push(part);
-    number
-}
-
-// Adds an operator between two parts, where it fits, and answers its number.
-pub(crate) fn append_binary<K: Copy>(
-    out: &mut Formula<K>,
-    operator: BinaryOperator,
-    left: usize,
-    right: usize,
-) -> usize
-    requires { Fits (Part.Binary operator left right) (parts_of out.old) }
-    ensures items { parts_of out.new ≡ parts_of out.old ++ Part.Binary operator left right ∷ [] }
-    ensures value { result ≡ length (parts_of out.old) }
-{
-    append(
-        out,
-        Part::Binary {
-            operator,
-            left,
-            right,
-        },
-    )
+    out.push(part).unwrap()
 }

@@ -8,7 +8,7 @@ mod wholes;
 
 pub use wholes::read_text;
 
-// The bytes of a text from `start` to before `end`.
+// The bytes of a text from `start` to before `end`. Places and no slice, since a rule keeps its draft when the text is given back.
 #[derive(Clone, Copy)]
 pub struct Run {
     pub start: usize,

@@ -24,6 +24,7 @@ pub enum RecordsFault {
     Record { record: usize, fault: TapeFault },
 }
 
+// By hand, to say what it makes of a fault; what the toolchain derives does not.
 impl From<ScaleFault> for TapeFault {
     ghost from_gives = { λ x r. r ≡ of_scale x };
 

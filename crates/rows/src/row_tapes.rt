@@ -1,8 +1,8 @@
 // The row tape: four given channels of any scale, kept in rows that are handed in and given back.
-ghost use Rattle.std.specs.Prelude.{◌≡◌, ℕ, ◌-◌, ◌<◌, ◌≤◌, if◌then◌else◌, vec_len, nat_eq, slice_index_or};
+ghost use Rattle.std.specs.Prelude.{◌≡◌, ℕ, ◌-◌, ◌<◌, ◌≤◌, take, MatchOption, vec_len, slice_index_or};
 ghost use Rattle.recording.specs.Changes.{Added, Amended, Withdrawn};
 ghost use Rattle.rows.specs.Rows.{RowsLeft, TicksFit, TicksRise, blank, mark_in, rowed};
-ghost use Rattle.std.proofs.Common.{rules, arith};
+ghost use Rattle.std.proofs.Common.{rules};
 
 use crate::rows::Row;
 use recording::{MOST_POINTS, Recording, Tape, TapeFault};
@@ -25,7 +25,7 @@ impl<S: Scale> Row<S> {
         }
     }
 
-    // The mark of a channel, and rest for a channel that no row has.
+    // The mark of a channel, by its name, and rest for a channel that no row has.
     fn mark(self, channel: usize) -> S
         ensures { result ≡ mark_in S.resting self channel }
     {
@@ -37,26 +37,12 @@ impl<S: Scale> Row<S> {
             _ => S::rest(),
         }
     }
-
-    // The row with another mark for one of its channels.
-    fn with_mark(self, channel: usize, mark: S) -> Row<S>
-        requires { channel < 4 }
-        ensures tick { result.tick ≡ self.tick }
-        ensures marks { (c : ℕ) → mark_in S.resting result c ≡ (if nat_eq c channel then mark else mark_in S.resting self c) }
-    {
-        match channel {
-            0 => Row { c0: mark, ..self },
-            1 => Row { c1: mark, ..self },
-            2 => Row { c2: mark, ..self },
-            _ => Row { c3: mark, ..self },
-        }
-    }
 }
 
 #[derive(Drop)]
 pub struct RowTape<S> {
     rows: Vec<Row<S>>,
-    // The first rows are the points.
+    // The first rows are the points; not the length of `rows`, which are all given back.
     points: usize,
     ghost within: { points ≤ vec_len rows },
     ghost few: { points ≤ 2048 },
@@ -73,6 +59,13 @@ impl<S> RowTape<S> {
         RowTape { rows, points: 0 }
     }
 
+    // The rows that are points.
+    fn used(&self) -> &[Row<S>]
+        ensures { result.now ≡ take self.now.points self.now.rows.items }
+    {
+        &self.rows[..self.points]
+    }
+
     // The rows that were handed in, as the tape left them.
     pub fn into_rows(self) -> Vec<Row<S>>
         ensures { result ≡ self.rows }
@@ -87,7 +80,7 @@ impl<S: Scale> Recording for RowTape<S> {
 
     ghost meaning = { λ s. rowed S.resting s.rows.items s.points };
 
-    ghost sound = { first_of (Prim.search rules, Prim.grind (arith, Self.row.coded.inj)) };
+    ghost sound = { Prim.search rules };
 
     fn points(&self) -> usize {
         self.points
@@ -106,36 +99,26 @@ impl<S: Scale> Recording for RowTape<S> {
     }
 
     fn tick(&self, point: usize) -> u32 {
-        if point < self.points {
-            self.rows[point].tick
-        } else {
-            0
-        }
+        self.used().get(point).map_or(0, |row| row.tick)
     }
 
     fn mark(&self, point: usize, channel: usize) -> S {
-        if point < self.points {
-            self.rows[point].mark(channel)
-        } else {
-            S::rest()
-        }
+        self.used()
+            .get(point)
+            .map_or(S::rest(), |row| row.mark(channel))
     }
 }
 
 impl<S: Scale> RowTape<S> {
-    // The row that a new point repeats.
-    fn last(&self) -> Row<S>
-        ensures some { 0 < self.now.points → result ≡ slice_index_or self.now.rows.items (self.now.points - 1) (blank S.resting) }
-        ensures none { self.now.points ≡ 0 → result ≡ blank S.resting }
+    // The row of the last point, if there is one.
+    fn last(&self) -> Option<Row<S>>
+        ensures { MatchOption result (self.now.points ≡ 0) (λ row. (0 < self.now.points) × (row ≡ slice_index_or self.now.rows.items (self.now.points - 1) (blank S.resting))) }
     {
-        if self.points > 0 {
-            self.rows[self.points - 1]
-        } else {
-            Row::blank()
-        }
+        self.used().last().copied()
     }
 }
 
+// That no change touches the rows behind the points is told by each: it is of before and after, and no type can tell it.
 impl<S: Scale> Tape for RowTape<S> {
     fn add(&mut self, tick: u32) -> Result<(), TapeFault>
         ensures change { Added S.resting (rowed S.resting self.old.rows.items self.old.points) tick result (rowed S.resting self.new.rows.items self.new.points) }
@@ -144,12 +127,13 @@ impl<S: Scale> Tape for RowTape<S> {
         if self.points == self.capacity() {
             return Err(TapeFault::Full);
         }
-        if self.points > 0 && tick <= self.tick(self.points - 1) {
+        let last = self.last();
+        if last.is_some_and(|row| tick <= row.tick) {
             return Err(TapeFault::TickNotLater);
         }
         let row = Row {
             tick,
-            ..self.last()
+            ..last.unwrap_or(Row::blank())
         };
         self.rows[self.points] = row;
         self.points += 1;
@@ -163,11 +147,14 @@ impl<S: Scale> Tape for RowTape<S> {
         if point >= self.points {
             return Err(TapeFault::NoPoint);
         }
-        if channel >= CHANNELS {
-            return Err(TapeFault::NoChannel);
+        let row = &mut self.rows[point];
+        match channel {
+            0 => row.c0 = mark,
+            1 => row.c1 = mark,
+            2 => row.c2 = mark,
+            3 => row.c3 = mark,
+            _ => return Err(TapeFault::NoChannel),
         }
-        let row = self.rows[point].with_mark(channel, mark);
-        self.rows[point] = row;
         Ok(())
     }
 

@@ -1,25 +1,37 @@
 // Puts the codes of a scale's marks in place of the runs that a plain reading left.
-ghost use Rattle.std.specs.Prelude.{◌≡◌, length, MatchResult};
-ghost use Rattle.reader.specs.Codings.{AllCoded, CodedOperand, CodedPart, FirstUnread, UnreadOperand, UnreadPart};
+ghost use Rattle.std.specs.Prelude.{◌≡◌, MatchResult, ◌≢◌};
+ghost use Rattle.scale.specs.declared.faults.ScaleFault.TheVariants.{Unread};
+ghost use Rattle.reader.specs.Codings.{AllCoded, CodedPart, FirstUnread, UnreadPart};
 ghost use Rattle.formula.specs.Formulas.{parts_of};
 ghost use Rattle.formula.specs.Orders.{reach};
-ghost use Rattle.reader.specs.Reads.{AllDrawn, Drawn, Stands};
+ghost use Rattle.reader.specs.Reads.{AllDrawn, Drawn};
+ghost use Rattle.reader.specs.Runs.{IsRun, bytes_in};
 
-use formula::{Formula, Operand, Part};
+use formula::{Conversion, Formula, Part};
 use reader::Run;
 use scale::{Scale, ScaleFault};
+use std::marker::PhantomData;
 
-fn coded_operand<S: Scale>(text: &[u8], operand: Operand<Run>) -> Result<Operand<u32>, ScaleFault>
-    requires { Stands text.now operand }
-    ensures { MatchResult result (CodedOperand S.code S.text text.now operand) (UnreadOperand S.code S.text text.now operand) }
-{
-    match operand {
-        Operand::Limit(name) => Ok(Operand::Limit(name)),
-        Operand::Channel(channel) => Ok(Operand::Channel(channel)),
-        Operand::Constant(Run { start, end }) => match S::of_text(&text[start..end]) {
-            Some(mark) => Ok(Operand::Constant(mark.to_code())),
-            None => Err(ScaleFault::Unread { place: start }),
-        },
+// The codes of the marks that runs of a text are written as. A run that is not of the text is unread.
+#[derive(Clone, Copy)]
+struct MarkCodes<'a, S> {
+    text: &'a [u8],
+    scale: PhantomData<S>,
+}
+
+impl<S: Scale> Conversion<Run, u32> for MarkCodes<'_, S> {
+    type Fault = ScaleFault;
+
+    ghost answers = { λ codes run out. IsRun codes.text.now run → MatchResult out (λ k. (m : S) × (S.text m ≡ bytes_in codes.text.now run) × (k ≡ S.code m)) (λ e. (e ≡ Unread run.start) × ((m : S) → S.text m ≢ bytes_in codes.text.now run)) };
+
+    fn convert(&self, run: Run) -> Result<u32, ScaleFault> {
+        let Run { start, end } = run;
+        let unread = ScaleFault::Unread { place: start };
+        let bytes = self.text.get(start..end).ok_or(unread)?;
+        match S::of_text(bytes) {
+            Some(mark) => Ok(mark.to_code()),
+            None => Err(unread),
+        }
     }
 }
 
@@ -27,30 +39,10 @@ fn coded_part<S: Scale>(text: &[u8], part: Part<Run>) -> Result<Part<u32>, Scale
     requires { Drawn text.now part }
     ensures { MatchResult result (λ out. CodedPart S.code S.text text.now part out × (reach out ≡ reach part)) (UnreadPart S.code S.text text.now part) }
 {
-    match part {
-        Part::Comparison {
-            channel,
-            comparator,
-            operand,
-        } => {
-            let operand = coded_operand::<S>(text, operand)?;
-            Ok(Part::Comparison {
-                channel,
-                comparator,
-                operand,
-            })
-        }
-        Part::Unary { operator, operand } => Ok(Part::Unary { operator, operand }),
-        Part::Binary {
-            operator,
-            left,
-            right,
-        } => Ok(Part::Binary {
-            operator,
-            left,
-            right,
-        }),
-    }
+    part.convert(&MarkCodes::<S> {
+        text,
+        scale: PhantomData,
+    })
 }
 
 // Codes each part of `draft` in order, up to the first run that the scale does not read.
@@ -63,10 +55,9 @@ pub(crate) fn code_parts<S: Scale>(
     ensures { MatchResult result (λ _. AllCoded S.code S.text text.now (parts_of draft.now) (parts_of fresh.new)) (FirstUnread S.code S.text text.now (parts_of draft.now)) }
 {
     fresh.clear();
-    let parts = draft.parts();
-    for part in parts {
+    for part in draft.parts() {
         let coded = coded_part::<S>(text, *part)?;
-        fresh.push(coded);
+        fresh.push(coded).unwrap();
     }
     Ok(())
 }

@@ -1,6 +1,6 @@
 -- The bytes of a short text. Assumes nothing.
-use Rattle.std.specs.Prelude.{ℕ, List, drop}
+use Rattle.std.specs.Prelude.{ℕ, List, take}
 use Rattle.scale.specs.declared.held.Word.{Word}
 
 abbrev pub bytes_of : Word → List ℕ
-bytes_of w = drop w.start w.bytes
+bytes_of w = take w.len w.bytes

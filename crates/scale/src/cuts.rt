@@ -4,11 +4,18 @@ ghost use Rattle.scale.specs.Cuts.{place, Between};
 
 use crate::scales::Scale;
 
-#[derive(Clone, Copy)]
+// The two sides of a mark.
+#[derive(Clone, Copy, PartialEq, Eq, PartialOrd, Ord, Debug)]
+pub enum Side {
+    Below,
+    Above,
+}
+
+// Cuts are ordered as they are declared: by mark, and at one mark by side.
+#[derive(Clone, Copy, PartialEq, Eq, PartialOrd, Ord)]
 pub enum Cut<S> {
     LowerEnd,
-    Below(S),
-    Above(S),
+    At(S, Side),
     UpperEnd,
 }
 
@@ -16,16 +23,7 @@ impl<S: Scale> Cut<S> {
     pub fn is_before(self, other: Cut<S>) -> bool
         ensures { result ≡ nat_lt (place S.rank self) (place S.rank other) }
     {
-        match (self, other) {
-            (_, Cut::LowerEnd) => false,
-            (Cut::LowerEnd, _) => true,
-            (Cut::UpperEnd, _) => false,
-            (_, Cut::UpperEnd) => true,
-            (Cut::Below(m), Cut::Below(n)) => m.is_before(n),
-            (Cut::Above(m), Cut::Above(n)) => m.is_before(n),
-            (Cut::Above(m), Cut::Below(n)) => m.is_before(n),
-            (Cut::Below(m), Cut::Above(n)) => !n.is_before(m),
-        }
+        self < other
     }
 }
 
@@ -33,5 +31,5 @@ impl<S: Scale> Cut<S> {
 pub fn lies_between<S: Scale>(mark: S, lower: Cut<S>, upper: Cut<S>) -> bool
     ensures { Decides result (Between S.rank lower upper mark) }
 {
-    !Cut::Below(mark).is_before(lower) && !upper.is_before(Cut::Above(mark))
+    lower <= Cut::At(mark, Side::Below) && Cut::At(mark, Side::Above) <= upper
 }

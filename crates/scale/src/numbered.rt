@@ -1,8 +1,9 @@
 // Scales whose marks are whole numbers in a row share one pick.
 ghost use Rattle.std.specs.Prelude.{◌≡◌, ℤ};
 ghost use Rattle.scale.specs.Numbered.{edge, picked_number};
+ghost use Rattle.scale.specs.declared.numbered.Row.{Row};
 
-use crate::cuts::Cut;
+use crate::cuts::{Cut, Side};
 
 // The marks' numbers run from `least` to just below `past`.
 #[derive(Clone, Copy)]
@@ -13,6 +14,10 @@ pub struct Row {
 }
 
 pub trait Numbered: Copy {
+    const ROW: Row;
+
+    ghost ROW: { Row };
+
     ghost number: { Self → ℤ };
 
     fn to_number(self) -> i32
@@ -20,28 +25,28 @@ pub trait Numbered: Copy {
 }
 
 // The number of the first mark behind a cut.
-fn edge_of<S: Numbered>(cut: Cut<S>, row: Row) -> i64
-    ensures { result ≡ edge S.number row cut }
+fn edge_of<S: Numbered>(cut: Cut<S>) -> i64
+    ensures { result ≡ edge S.number S.ROW cut }
 {
     match cut {
-        Cut::LowerEnd => row.least as i64,
-        Cut::Below(m) => m.to_number() as i64,
-        Cut::Above(m) => m.to_number() as i64 + 1,
-        Cut::UpperEnd => row.past,
+        Cut::LowerEnd => S::ROW.least as i64,
+        Cut::At(m, Side::Below) => m.to_number() as i64,
+        Cut::At(m, Side::Above) => m.to_number() as i64 + 1,
+        Cut::UpperEnd => S::ROW.past,
     }
 }
 
 // The first number behind the lower cut, or the last before the upper one if the lower is an end.
-pub fn pick_number<S: Numbered>(lower: Cut<S>, upper: Cut<S>, row: Row) -> Option<i64>
-    ensures { result ≡ picked_number S.number row lower upper }
+pub fn pick_number<S: Numbered>(lower: Cut<S>, upper: Cut<S>) -> Option<i64>
+    ensures { result ≡ picked_number S.number S.ROW lower upper }
 {
-    let first = edge_of(lower, row);
-    let past = edge_of(upper, row);
+    let first = edge_of(lower);
+    let past = edge_of(upper);
     if first >= past {
         return None;
     }
     match (lower, upper) {
-        (Cut::LowerEnd, Cut::UpperEnd) => Some(row.rest as i64),
+        (Cut::LowerEnd, Cut::UpperEnd) => Some(S::ROW.rest as i64),
         (Cut::LowerEnd, _) => Some(past - 1),
         _ => Some(first),
     }

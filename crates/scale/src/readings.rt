@@ -2,7 +2,7 @@
 ghost use Rattle.std.specs.Prelude.{◌≡◌, pos, Some};
 ghost use Rattle.scale.specs.Numbered.{Leans};
 ghost use Rattle.scale.specs.declared.values.Reading.{Reading};
-ghost use Rattle.scale.specs.Readings.{held, value_of, reading_rank, reading_code, reading_named, reading_text, reading_picked};
+ghost use Rattle.scale.specs.Readings.{held, value_of, reading_rank, reading_code, reading_named, reading_text, reading_picked, readings};
 ghost use Rattle.scale.specs.ReadingLaws.{reading_ranks_apart, reading_codes_name, reading_texts_apart, reading_texts_run};
 ghost use Rattle.std.proofs.Common.{rules, arith};
 
@@ -11,11 +11,13 @@ use crate::held::Word;
 use crate::numbered::{Numbered, Row, pick_number};
 use crate::scales::Scale;
 use crate::values::Reading;
-use crate::words::same_bytes;
+use itoa::Buffer;
 
 impl Reading {
+    // `new` and `to_i32` have names, and no `From`: a name at a call tells what `into` leaves to be guessed.
     pub fn new(value: i32) -> Reading
-        ensures { value_of result ≡ value }
+        ensures value { value_of result ≡ value }
+        ensures held { result ≡ held value }
     {
         Reading { value }
     }
@@ -25,13 +27,6 @@ impl Reading {
     {
         self.value
     }
-}
-
-// The reading of a number.
-fn reading_of(number: i32) -> Reading
-    ensures { result ≡ held number }
-{
-    Reading::new(number)
 }
 
 // The reading that has this text, if one has; of other texts it may be any reading.
@@ -48,6 +43,14 @@ fn parsed(run: &[u8]) -> Option<Reading>
 }
 
 impl Numbered for Reading {
+    const ROW: Row = Row {
+        least: i32::MIN,
+        past: 2_147_483_648,
+        rest: 0,
+    };
+
+    ghost ROW = { readings };
+
     ghost number = { value_of };
 
     fn to_number(self) -> i32 {
@@ -68,6 +71,8 @@ impl Scale for Reading {
 
     ghost picked = { reading_picked };
 
+    ghost ranks_order = { Prim.search rules };
+
     ghost ranks_apart = { reading_ranks_apart };
 
     ghost ranks_fit = { first_of (Prim.search rules, Prim.grind (arith, Self.row.coded.inj)) };
@@ -82,53 +87,31 @@ impl Scale for Reading {
 
     ghost picks = { first_of (Prim.search rules, Prim.grind (arith, Self.row.coded.inj)) };
 
-    fn is_before(self, other: Reading) -> bool {
-        self.to_i32() < other.to_i32()
-    }
-
     fn to_code(self) -> u32 {
         self.to_i32().cast_unsigned()
     }
 
     fn of_code(number: u32) -> Option<Reading> {
-        Some(reading_of(number.cast_signed()))
+        Some(Reading::new(number.cast_signed()))
     }
 
     fn rest() -> Reading {
-        reading_of(0)
+        Reading::new(0)
     }
 
     fn to_text(self) -> Word {
-        let mut word = Word::decimal(self.to_i32().unsigned_abs());
-        if self.to_i32() < 0 {
-            word.prepend(b'-');
-        }
-        word
+        Word::new(Buffer::new().format(self.to_i32()).as_bytes())
     }
 
     // Only the text that is written of a number is read, so what is parsed is written again and compared.
     fn of_text(run: &[u8]) -> Option<Reading> {
-        let mark = parsed(run)?;
-        let written = mark.to_text();
-        if same_bytes(written.as_bytes(), run) {
-            Some(mark)
-        } else {
-            None
-        }
+        parsed(run).filter(|mark| mark.to_text().as_bytes() == run)
     }
 
     fn pick(lower: Cut<Reading>, upper: Cut<Reading>) -> Option<Reading>
         ensures value { result ≡ reading_picked lower upper }
         ensures leans { Leans reading_rank (held (pos 0)) lower upper result }
     {
-        let row = Row {
-            least: i32::MIN,
-            past: 2_147_483_648,
-            rest: 0,
-        };
-        match pick_number(lower, upper, row) {
-            Some(number) => Some(reading_of(number as i32)),
-            None => None,
-        }
+        pick_number(lower, upper).map(|number| Reading::new(number as i32))
     }
 }

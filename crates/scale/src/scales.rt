@@ -1,14 +1,16 @@
 // A scale is a kind of mark with a strict total order.
+// Its conversions are methods of its own: under TryFrom, Display and FromStr each kind would state code and text twice.
 ghost use Rattle.std.specs.Prelude.{◌≡◌, ℕ, ◌^◌, ◌<◌, List, Option, MatchOption, ◌≢◌, nat_lt};
 ghost use Rattle.scale.specs.declared.cuts.Cut.{Cut};
 ghost use Rattle.scale.specs.Marks.{Apart, Names, RunText};
 ghost use Rattle.scale.specs.Cuts.{Picks};
 ghost use Rattle.scale.specs.Words.{bytes_of};
+ghost use Rattle.std.specs.Ordering.{nat_cmp};
 
 use crate::cuts::Cut;
 use crate::held::Word;
 
-pub trait Scale: Copy {
+pub trait Scale: Copy + Ord {
     // The place of a mark in the order.
     ghost rank: { Self → ℕ };
 
@@ -27,9 +29,12 @@ pub trait Scale: Copy {
     // The mark that the scale picks between two cuts.
     ghost picked: { Cut Self → Cut Self → Option Self };
 
-    // Whether this mark is before the other.
+    // Whether this mark is before the other: the order by `<`, promised in terms of ranks.
     fn is_before(self, other: Self) -> bool
-        ensures { result ≡ nat_lt (rank self) (rank other) };
+        ensures { result ≡ nat_lt (rank self) (rank other) }
+    {
+        self < other
+    }
 
     fn to_code(self) -> u32
         ensures { result ≡ code self };
@@ -49,6 +54,8 @@ pub trait Scale: Copy {
 
     fn pick(lower: Cut<Self>, upper: Cut<Self>) -> Option<Self>
         ensures { result ≡ picked lower upper };
+
+    ghost ranks_order: { (m n : Self) → Self.cmp m n ≡ nat_cmp (rank m) (rank n) };
 
     ghost ranks_apart: { Apart rank };
 

@@ -1,7 +1,7 @@
 // The scale of stages: how far a slider has come on its way.
 ghost use Rattle.std.specs.Prelude.{◌≡◌};
 ghost use Rattle.scale.specs.Numbered.{Leans};
-ghost use Rattle.scale.specs.Stages.{stage_code, stage_named, stage_text, stage_number, stage_of, stage_picked};
+ghost use Rattle.scale.specs.Stages.{stage_at, stage_code, stage_named, stage_text, stage_number, stage_picked, stages};
 ghost use Rattle.scale.specs.declared.stages.Stage.TheVariants.{Off};
 ghost use Rattle.std.proofs.Common.{rules};
 
@@ -9,9 +9,8 @@ use crate::cuts::Cut;
 use crate::held::Word;
 use crate::numbered::{Numbered, Row, pick_number};
 use crate::scales::Scale;
-use crate::words::same_bytes;
 
-#[derive(Clone, Copy, PartialEq, Eq, Debug)]
+#[derive(Clone, Copy, PartialEq, Eq, PartialOrd, Ord, Debug)]
 pub enum Stage {
     Off,
     Leaving,
@@ -21,6 +20,14 @@ pub enum Stage {
 }
 
 impl Numbered for Stage {
+    const ROW: Row = Row {
+        least: 0,
+        past: 5,
+        rest: 0,
+    };
+
+    ghost ROW = { stages };
+
     ghost number = { stage_number };
 
     fn to_number(self) -> i32 {
@@ -29,8 +36,8 @@ impl Numbered for Stage {
 }
 
 // The stage of a number from 0 to 4.
-fn stage_at(number: i64) -> Stage
-    ensures { result ≡ stage_of number }
+fn stage_at(number: u32) -> Stage
+    ensures { result ≡ stage_at number }
 {
     match number {
         0 => Stage::Off,
@@ -54,6 +61,8 @@ impl Scale for Stage {
 
     ghost picked = { stage_picked };
 
+    ghost ranks_order = { Prim.search rules };
+
     ghost ranks_apart = { Prim.search rules };
 
     ghost ranks_fit = { Prim.search rules };
@@ -68,22 +77,15 @@ impl Scale for Stage {
 
     ghost picks = { Prim.search rules };
 
-    fn is_before(self, other: Stage) -> bool {
-        self.to_code() < other.to_code()
-    }
-
     fn to_code(self) -> u32 {
         self as u32
     }
 
     fn of_code(number: u32) -> Option<Stage> {
-        match number {
-            0 => Some(Stage::Off),
-            1 => Some(Stage::Leaving),
-            2 => Some(Stage::Travel),
-            3 => Some(Stage::Arriving),
-            4 => Some(Stage::On),
-            _ => None,
+        if number < 5 {
+            Some(stage_at(number))
+        } else {
+            None
         }
     }
 
@@ -92,28 +94,23 @@ impl Scale for Stage {
     }
 
     fn to_text(self) -> Word {
-        match self {
-            Stage::Off => Word::new(b"off"),
-            Stage::Leaving => Word::new(b"leaving"),
-            Stage::Travel => Word::new(b"travel"),
-            Stage::Arriving => Word::new(b"arriving"),
-            Stage::On => Word::new(b"on"),
-        }
+        Word::new(match self {
+            Stage::Off => b"off",
+            Stage::Leaving => b"leaving",
+            Stage::Travel => b"travel",
+            Stage::Arriving => b"arriving",
+            Stage::On => b"on",
+        })
     }
 
     fn of_text(run: &[u8]) -> Option<Stage> {
-        if same_bytes(run, b"off") {
-            Some(Stage::Off)
-        } else if same_bytes(run, b"leaving") {
-            Some(Stage::Leaving)
-        } else if same_bytes(run, b"travel") {
-            Some(Stage::Travel)
-        } else if same_bytes(run, b"arriving") {
-            Some(Stage::Arriving)
-        } else if same_bytes(run, b"on") {
-            Some(Stage::On)
-        } else {
-            None
+        match run {
+            b"off" => Some(Stage::Off),
+            b"leaving" => Some(Stage::Leaving),
+            b"travel" => Some(Stage::Travel),
+            b"arriving" => Some(Stage::Arriving),
+            b"on" => Some(Stage::On),
+            _ => None,
         }
     }
 
@@ -121,14 +118,6 @@ impl Scale for Stage {
         ensures value { result ≡ stage_picked lower upper }
         ensures leans { Leans stage_code Off lower upper result }
     {
-        let row = Row {
-            least: 0,
-            past: 5,
-            rest: 0,
-        };
-        match pick_number(lower, upper, row) {
-            Some(number) => Some(stage_at(number)),
-            None => None,
-        }
+        pick_number(lower, upper).map(|number| stage_at(number as u32))
     }
 }

@@ -5,10 +5,11 @@ use Rattle.std.proofs.str.Laws.{order}
 use Rattle.formula.specs.declared.parts.Part.{Part}
 use Rattle.formula.specs.Orders.{Ordered, reach}
 use Rattle.solver.specs.declared.solvers.SolveFault.{SolveFault}
+use Rattle.solver.specs.declared.solvers.SolveFault.TheVariants.{Full}
 use Rattle.solver.specs.declared.steps.Step.{Step}
 use Rattle.solver.specs.declared.steps.Step.TheVariants.{Bound, Everything, Nothing, Same, Join, Meet, Later}
 use Rattle.domain.specs.Added.{Boxes}
-use Rattle.solver.specs.Derived.{row_from, rows_back, settle, then_row, then_rows, told}
+use Rattle.solver.specs.Derived.{Row, row_from, rows_back, settle, then_row, then_rows, told}
 use Rattle.solver.specs.Labels.{labelled}
 use Rattle.solver.specs.Signs.{part_signs}
 use Rattle.solver.specs.Steps.{settled, step_for, step_of}
@@ -93,3 +94,8 @@ module _ {S : Type 0} (rank : S → ℕ) (marks : ℕ → ℕ → S) (points : �
       (λ lt. ap (λ r. then_rows r (λ row. told (points - 1 - suc e) (row_from rank marks points (part_signs parts) (points - 1 - suc e) row parts []))) (rows_stop d e fault (omega arith) stop))
       (λ ge. let same : suc e ≡ d = omega arith in ap (rows_back rank marks points parts) same ∙ stop)
       (order d (suc e))
+
+-- a row that is refused is refused at one of its parts
+pub told_stops : {S : Type 0} (point : ℕ) (row : Row S) (fault : SolveFault) → told point row ≡ Err fault → (part : ℕ) × (Full point part ≡ fault)
+told_stops point (Ok row) fault e = let z : ◌≡◌ {A = ℕ} 0 1 = cc in absurd (omega arith)
+told_stops point (Err part) fault e = (part, cc)

@@ -10,12 +10,3 @@ use Rattle.domain.specs.Listed.{boxes_of, reached}
 -- the list of one part is that of the domain with its number
 pub list_at : {S : Type 0} (ds : List (Domain S)) (i : ℕ) (d : Domain S) → i < length ds → d ≡ get_or ds i d → boxes_of d ≡ at (lists_in ds) i
 list_at ds i d h e = ap boxes_of e ∙ sym (get_or-map boxes_of ds i d [] h)
-
-pub ends_by : {S : Type 0} (r : Result (Unit {0}) Full) (xs : Boxes S) (o : Outcome S) → reached r xs ≡ o → Ends r xs o
-ends_by (Ok u) xs o e = sym e
-ends_by (Err f) xs o e = ap is_err (sym e)
-
--- without an error the call ended
-pub ended : {S : Type 0} (r : Result (Unit {0}) Full) (xs : Boxes S) (o : Outcome S) → Ends r xs o → is_err r ≡ false → o ≡ Ok xs
-ended (Ok u) xs o e f = e
-ended (Err x) xs o e f = let z : ◌≡◌ {A = ℕ} 0 1 = cc in absurd (omega arith)

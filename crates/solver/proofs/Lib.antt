@@ -1,6 +1,5 @@
 pub mod Completing
 pub mod Descending
-pub mod Handing
 pub mod Holding
 pub mod Labelling
 pub mod Paths

@@ -29,11 +29,6 @@ module _ {S : Type 0} (rank : S → ℕ) (marks : ℕ → ℕ → S) (points : �
   row_from point next [] here = Ok here
   row_from point next (p ∷ ps) here = then_row (settle here (labelled rank here next (length here) (step_for rank marks points point (slice_index_or signs (length here) false) p))) (row_from point next ps)
 
--- a call left the row's lists in the first places, or was stopped at this part
-abbrev pub RowEnds : {S : Type 0} → Result (Unit {0}) ℕ → ℕ → List (Boxes S) → Row S → Type 0
-RowEnds (Ok _) count lists row = row ≡ Ok (take count lists)
-RowEnds (Err part) count lists row = row ≡ Err part
-
 -- a row, or the refusal
 abbrev pub Rows : Type 0 → Type 0
 Rows S = Result (List (Boxes S)) SolveFault
@@ -42,6 +37,11 @@ module _ {S : Type 0} where
   abbrev pub told : ℕ → Row S → Rows S
   told point (Ok row) = Ok row
   told point (Err part) = Err (Full point part)
+
+  -- a call left the row's lists in the first places, or was refused so
+  abbrev pub RowEnds : Result (Unit {0}) SolveFault → ℕ → List (Boxes S) → Rows S → Type 0
+  RowEnds (Ok _) count lists rows = rows ≡ Ok (take count lists)
+  RowEnds (Err fault) count lists rows = rows ≡ Err fault
 
   abbrev pub then_rows : Rows S → (List (Boxes S) → Rows S) → Rows S
   then_rows (Ok row) f = f row

@@ -1,5 +1,5 @@
 -- The list of a part at a point, from those of lower parts here and of all parts at the next point. Assumes nothing.
-use Rattle.std.specs.Prelude.{◌≡◌, ℕ, Bool, true, false, List, [], ◌∷◌, map, replicate, is_err, Ok, Err, vec_items, Result, Vec, slice_index_or, slice_set}
+use Rattle.std.specs.Prelude.{◌≡◌, ℕ, true, List, [], ◌∷◌, map, replicate, is_err, Ok, Err, vec_items, Result, Vec, slice_index_or, slice_set}
 use Rattle.std.specs.declared.alloc.Global.{Global}
 use Rattle.formula.specs.Parts.{limit_index}
 use Rattle.domain.specs.declared.lists.Domain.{Domain}
@@ -25,8 +25,8 @@ row_of v = lists_in (vec_items v)
 pub record Idle {S : Type 0} (s : Solver S) : Type 0 where
   pub here : row_of s.here ≡ replicate 24 []
   pub next : row_of s.next ≡ replicate 24 []
-  pub work : boxes_of s.work ≡ []
-  pub spare : boxes_of s.spare ≡ []
+  pub work : boxes_of s.scratch.work ≡ []
+  pub spare : boxes_of s.scratch.spare ≡ []
 
 -- a call ended with this list, or was stopped
 abbrev pub Ends : {S : Type 0} → Result (Unit {0}) Full → Boxes S → Outcome S → Type 0
@@ -34,9 +34,9 @@ Ends (Ok _) xs o = o ≡ Ok xs
 Ends (Err _) xs o = is_err o ≡ true
 
 -- the list went to its place in the row, or was stopped
-abbrev pub Settles : {S : Type 0} → Bool → List (Boxes S) → ℕ → Outcome S → List (Boxes S) → Type 0
-Settles {S} true lists number o after = (xs : Boxes S) × (o ≡ Ok xs) × (after ≡ slice_set lists number xs)
-Settles false lists number o after = is_err o ≡ true
+abbrev pub Settles : {S : Type 0} → Result (Unit {0}) Full → List (Boxes S) → ℕ → Outcome S → List (Boxes S) → Type 0
+Settles {S} (Ok _) lists number o after = (xs : Boxes S) × (o ≡ Ok xs) × (after ≡ slice_set lists number xs)
+Settles (Err _) lists number o after = is_err o ≡ true
 
 -- the list of one part, by its number
 abbrev pub at : {S : Type 0} → List (Boxes S) → ℕ → Boxes S

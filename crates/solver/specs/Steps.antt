@@ -2,6 +2,9 @@
 use Rattle.std.specs.Prelude.{ℕ, ◌+◌, max, Bool, cond, ◌==◌}
 use Rattle.formula.specs.Parts.{opposed}
 use Rattle.formula.specs.declared.parts.Comparator.{Comparator}
+use Rattle.formula.specs.declared.parts.BinaryOperator.{BinaryOperator}
+use Rattle.formula.specs.declared.parts.UnaryOperator.{UnaryOperator}
+use Rattle.formula.specs.declared.parts.Operand.{Operand}
 use Rattle.formula.specs.declared.parts.Operand.TheVariants.{Limit, Channel, Constant}
 use Rattle.formula.specs.declared.parts.Part.{Part}
 use Rattle.formula.specs.declared.parts.Part.TheVariants.{Comparison, Unary, Binary}
@@ -50,24 +53,33 @@ span (Join l r) = max l r + 1
 span (Meet l r) = max l r + 1
 span (Later outlook) = outlook_span outlook
 
+abbrev pub unary_step : {S : Type 0} → Bool → UnaryOperator → ℕ → Step S
+-- the operand is turned in the place of the part
+unary_step turned Not operand = Same operand
+unary_step turned next_op operand = Later (Next operand)
+unary_step turned Finally operand = Later (cond turned (Always operand) (Eventually operand))
+unary_step turned Globally operand = Later (cond turned (Eventually operand) (Always operand))
+
+abbrev pub binary_step : {S : Type 0} → Bool → BinaryOperator → ℕ → ℕ → Step S
+binary_step turned And left right = cond turned (Join left right) (Meet left right)
+binary_step turned Or left right = cond turned (Meet left right) (Join left right)
+-- the left operand is turned the other way
+binary_step turned Implies left right = cond turned (Meet left right) (Join left right)
+-- the dual of until is weak until with its sides exchanged, and the other way round
+binary_step turned until_op left right = Later (cond turned (WeakUntil right left) (Until left right))
+binary_step turned weak_op left right = Later (cond turned (Until right left) (WeakUntil left right))
+
 -- marks gives the mark of each channel at the point
 module _ {S : Type 0} (rank : S → ℕ) (marks : ℕ → S) where
+  abbrev pub comparison_step : ℕ → Comparator → Operand S → Step S
+  comparison_step channel comparator (Limit limit) = Bound limit (side_of comparator (marks channel))
+  comparison_step channel comparator (Channel other) = cond (meets rank (marks channel) comparator (marks other)) Everything Nothing
+  comparison_step channel comparator (Constant mark) = cond (meets rank (marks channel) comparator mark) Everything Nothing
+
   abbrev pub step_of : Bool → Part S → Step S
-  step_of turned (Comparison channel comparator (Limit limit)) = Bound limit (side_of (step_under_sign turned comparator) (marks channel))
-  step_of turned (Comparison channel comparator (Channel other)) = cond (meets rank (marks channel) (step_under_sign turned comparator) (marks other)) Everything Nothing
-  step_of turned (Comparison channel comparator (Constant mark)) = cond (meets rank (marks channel) (step_under_sign turned comparator) mark) Everything Nothing
-  -- the operand is turned in the place of the part
-  step_of turned (Unary Not operand) = Same operand
-  step_of turned (Unary next_op operand) = Later (Next operand)
-  step_of turned (Unary Finally operand) = Later (cond turned (Always operand) (Eventually operand))
-  step_of turned (Unary Globally operand) = Later (cond turned (Eventually operand) (Always operand))
-  step_of turned (Binary And left right) = cond turned (Join left right) (Meet left right)
-  step_of turned (Binary Or left right) = cond turned (Meet left right) (Join left right)
-  -- the left operand is turned the other way
-  step_of turned (Binary Implies left right) = cond turned (Meet left right) (Join left right)
-  -- the dual of until is weak until with its sides exchanged, and the other way round
-  step_of turned (Binary until_op left right) = Later (cond turned (WeakUntil right left) (Until left right))
-  step_of turned (Binary weak_op left right) = Later (cond turned (Until right left) (WeakUntil left right))
+  step_of turned (Comparison channel comparator operand) = comparison_step channel (step_under_sign turned comparator) operand
+  step_of turned (Unary operator operand) = unary_step turned operator operand
+  step_of turned (Binary operator left right) = binary_step turned operator left right
 
 -- the step at a point of a recording with so many points; the last of them repeats for ever
 abbrev pub step_for : {S : Type 0} → (S → ℕ) → (ℕ → ℕ → S) → ℕ → ℕ → Bool → Part S → Step S

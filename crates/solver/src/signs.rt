@@ -1,9 +1,11 @@
-// The sign of each part: a part under an odd number of negations is turned.
+// The sign of each part: a part under an odd number of negations is turned. Signs stand beside the parts and not in them, since
+// an operator hands its own down by number, and a solve leaves the formula as it is.
 ghost use Rattle.std.specs.Prelude.{◌≡◌, ◌≤◌, length};
-ghost use Rattle.formula.specs.Orders.{Ordered, reach};
+ghost use Rattle.formula.specs.Formulas.{parts_of};
+ghost use Rattle.formula.specs.Orders.{reach};
 ghost use Rattle.solver.specs.Signs.{handed, part_signs};
 
-use formula::{BinaryOperator, MAX_PARTS, Part, UnaryOperator};
+use formula::{BinaryOperator, Formula, MAX_PARTS, Part, UnaryOperator};
 
 // What an operator at this number makes of its operands' signs.
 fn pass_down<K: Copy>(part: Part<K>, turned: bool, signs: &mut [bool])
@@ -33,14 +35,12 @@ fn pass_down<K: Copy>(part: Part<K>, turned: bool, signs: &mut [bool])
 }
 
 // The whole formula is not turned, and each operator hands its sign down.
-pub(crate) fn signs_of<K: Copy>(parts: &[Part<K>]) -> [bool; MAX_PARTS]
-    requires few { length parts.now ≤ 24 }
-    requires ordered { Ordered parts.now }
-    ensures { result ≡ part_signs parts.now }
+pub(crate) fn signs_of<K: Copy>(formula: &Formula<K>) -> [bool; MAX_PARTS]
+    ensures { result ≡ part_signs (parts_of formula.now) }
 {
     let mut signs = [false; MAX_PARTS];
-    for k in (0..parts.len()).rev() {
-        pass_down(parts[k], signs[k], &mut signs);
+    for (number, part) in formula.parts().iter().enumerate().rev() {
+        pass_down(*part, signs[number], &mut signs);
     }
     signs
 }

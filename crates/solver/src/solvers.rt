@@ -1,6 +1,7 @@
 // Solving: the lists of all parts, from the last point down to the one asked for.
 ghost use Rattle.std.specs.Prelude.{◌≡◌, vec_len};
 
+use crate::labels::Scratch;
 use domain::Domain;
 
 mod rows;
@@ -10,8 +11,7 @@ mod rows;
 pub struct Solver<S> {
     here: Vec<Domain<S>>,
     next: Vec<Domain<S>>,
-    work: Domain<S>,
-    spare: Domain<S>,
+    scratch: Scratch<S>,
     ghost level: { vec_len here ≡ 24 },
     ghost whole: { vec_len next ≡ 24 },
 }

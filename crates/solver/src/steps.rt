@@ -1,7 +1,6 @@
 // How a part's list at a point is made, once the part's sign is taken into account.
 ghost use Rattle.std.specs.Prelude.{◌≡◌};
-ghost use Rattle.solver.specs.declared.steps.Outlook.TheVariants.{Until as until, WeakUntil as weak_until};
-ghost use Rattle.solver.specs.Steps.{last_step, settled, step_for, step_of, step_under_sign};
+ghost use Rattle.solver.specs.Steps.{binary_step, comparison_step, last_step, settled, step_for, step_of, step_under_sign, unary_step};
 
 use crate::comparisons::{bounded_by, compares};
 use domain::Interval;
@@ -10,6 +9,7 @@ use recording::Recording;
 use scale::Scale;
 
 // What a part says of this point alone. Numbers are those of lower parts, whose lists are joined or met.
+// A value and not a closure, since contracts say which step it is.
 #[derive(Clone, Copy)]
 pub enum Step<S> {
     // One box, which bounds one limit.
@@ -72,27 +72,71 @@ fn under_sign(comparator: Comparator, turned: bool) -> Comparator
     }
 }
 
-// Not until: weak until, with the sides exchanged.
-fn dual_of_until(left: usize, right: usize) -> Outlook
-    ensures { result ≡ weak_until right left }
+// What two marks, or a mark and a limit, say at one point.
+fn comparison_step<R: Recording>(
+    recording: &R,
+    point: usize,
+    channel: usize,
+    comparator: Comparator,
+    operand: Operand<R::Mark>,
+) -> Step<R::Mark>
+    ensures { result ≡ comparison_step R.Mark.rank ((R.meaning recording.now).mark point) channel comparator operand }
 {
-    Outlook::WeakUntil {
-        left: right,
-        right: left,
+    let mark = recording.mark(point, channel);
+    let holds = match operand {
+        Operand::Limit(limit) => return Step::Bound(limit, bounded_by(mark, comparator)),
+        Operand::Channel(other) => compares(mark, comparator, recording.mark(point, other)),
+        Operand::Constant(constant) => compares(mark, comparator, constant),
+    };
+    if holds {
+        Step::Everything
+    } else {
+        Step::Nothing
     }
 }
 
-// Not weak until: until, with the sides exchanged.
-fn dual_of_weak_until(left: usize, right: usize) -> Outlook
-    ensures { result ≡ until right left }
+// The operand of a negation is turned in the place of the part.
+fn unary_step<S>(operator: UnaryOperator, operand: usize, turned: bool) -> Step<S>
+    ensures { result ≡ unary_step turned operator operand }
 {
-    Outlook::Until {
-        left: right,
-        right: left,
+    match (operator, turned) {
+        (UnaryOperator::Not, _) => Step::Same(operand),
+        (UnaryOperator::Next, _) => Step::Later(Outlook::Next(operand)),
+        (UnaryOperator::Finally, false) | (UnaryOperator::Globally, true) => {
+            Step::Later(Outlook::Eventually(operand))
+        }
+        (UnaryOperator::Globally, false) | (UnaryOperator::Finally, true) => {
+            Step::Later(Outlook::Always(operand))
+        }
     }
 }
 
-// One match over kind and sign decides how the list is made.
+// The left operand of an implication is turned the other way. The dual of until is weak until with its sides exchanged, and
+// the other way round.
+fn binary_step<S>(operator: BinaryOperator, left: usize, right: usize, turned: bool) -> Step<S>
+    ensures { result ≡ binary_step turned operator left right }
+{
+    match (operator, turned) {
+        (BinaryOperator::And, false) | (BinaryOperator::Or | BinaryOperator::Implies, true) => {
+            Step::Meet(left, right)
+        }
+        (BinaryOperator::Or | BinaryOperator::Implies, false) | (BinaryOperator::And, true) => {
+            Step::Join(left, right)
+        }
+        (BinaryOperator::Until, false) => Step::Later(Outlook::Until { left, right }),
+        (BinaryOperator::Until, true) => Step::Later(Outlook::WeakUntil {
+            left: right,
+            right: left,
+        }),
+        (BinaryOperator::WeakUntil, false) => Step::Later(Outlook::WeakUntil { left, right }),
+        (BinaryOperator::WeakUntil, true) => Step::Later(Outlook::Until {
+            left: right,
+            right: left,
+        }),
+    }
+}
+
+// How the list of a part is made, by its kind and sign.
 pub fn step_of<R: Recording>(
     recording: &R,
     point: usize,
@@ -101,170 +145,21 @@ pub fn step_of<R: Recording>(
 ) -> Step<R::Mark>
     ensures { result ≡ step_of R.Mark.rank ((R.meaning recording.now).mark point) turned part }
 {
-    match (part, turned) {
-        (
-            Part::Comparison {
-                channel,
-                comparator,
-                operand: Operand::Limit(limit),
-            },
-            _,
-        ) => {
-            Step::Bound(
-                limit,
-                bounded_by(
-                    recording.mark(point, channel),
-                    under_sign(comparator, turned),
-                ),
-            )
+    match part {
+        Part::Comparison {
+            channel,
+            comparator,
+            operand,
+        } => {
+            let comparator = under_sign(comparator, turned);
+            comparison_step(recording, point, channel, comparator, operand)
         }
-        (
-            Part::Comparison {
-                channel,
-                comparator,
-                operand: Operand::Channel(other),
-            },
-            _,
-        ) if compares(
-            recording.mark(point, channel),
-            under_sign(comparator, turned),
-            recording.mark(point, other),
-        ) => { Step::Everything }
-        (
-            Part::Comparison {
-                channel,
-                comparator,
-                operand: Operand::Constant(mark),
-            },
-            _,
-        ) if compares(
-            recording.mark(point, channel),
-            under_sign(comparator, turned),
-            mark,
-        ) => { Step::Everything }
-        (Part::Comparison { .. }, _) => Step::Nothing,
-        (
-            Part::Unary {
-                operator: UnaryOperator::Not,
-                operand,
-            },
-            _,
-        ) => Step::Same(operand),
-        (
-            Part::Unary {
-                operator: UnaryOperator::Next,
-                operand,
-            },
-            _,
-        ) => Step::Later(Outlook::Next(operand)),
-        (
-            Part::Unary {
-                operator: UnaryOperator::Finally,
-                operand,
-            },
-            false,
-        ) => Step::Later(Outlook::Eventually(operand)),
-        (
-            Part::Unary {
-                operator: UnaryOperator::Finally,
-                operand,
-            },
-            true,
-        ) => Step::Later(Outlook::Always(operand)),
-        (
-            Part::Unary {
-                operator: UnaryOperator::Globally,
-                operand,
-            },
-            false,
-        ) => Step::Later(Outlook::Always(operand)),
-        (
-            Part::Unary {
-                operator: UnaryOperator::Globally,
-                operand,
-            },
-            true,
-        ) => Step::Later(Outlook::Eventually(operand)),
-        (
-            Part::Binary {
-                operator: BinaryOperator::And,
-                left,
-                right,
-            },
-            false,
-        ) => Step::Meet(left, right),
-        (
-            Part::Binary {
-                operator: BinaryOperator::And,
-                left,
-                right,
-            },
-            true,
-        ) => Step::Join(left, right),
-        (
-            Part::Binary {
-                operator: BinaryOperator::Or,
-                left,
-                right,
-            },
-            false,
-        ) => Step::Join(left, right),
-        (
-            Part::Binary {
-                operator: BinaryOperator::Or,
-                left,
-                right,
-            },
-            true,
-        ) => Step::Meet(left, right),
-        (
-            Part::Binary {
-                operator: BinaryOperator::Implies,
-                left,
-                right,
-            },
-            false,
-        ) => Step::Join(left, right),
-        (
-            Part::Binary {
-                operator: BinaryOperator::Implies,
-                left,
-                right,
-            },
-            true,
-        ) => Step::Meet(left, right),
-        (
-            Part::Binary {
-                operator: BinaryOperator::Until,
-                left,
-                right,
-            },
-            false,
-        ) => Step::Later(Outlook::Until { left, right }),
-        (
-            Part::Binary {
-                operator: BinaryOperator::Until,
-                left,
-                right,
-            },
-            true,
-        ) => Step::Later(dual_of_until(left, right)),
-        (
-            Part::Binary {
-                operator: BinaryOperator::WeakUntil,
-                left,
-                right,
-            },
-            false,
-        ) => Step::Later(Outlook::WeakUntil { left, right }),
-        (
-            Part::Binary {
-                operator: BinaryOperator::WeakUntil,
-                left,
-                right,
-            },
-            true,
-        ) => Step::Later(dual_of_weak_until(left, right)),
+        Part::Unary { operator, operand } => unary_step(operator, operand, turned),
+        Part::Binary {
+            operator,
+            left,
+            right,
+        } => binary_step(operator, left, right, turned),
     }
 }
 

@@ -19,6 +19,7 @@ pub enum TextFault {
     Scale(ScaleFault),
 }
 
+// By hand, to say what it makes of a fault; what the toolchain derives does not.
 impl From<ScaleFault> for TextFault {
     ghost from_gives = { λ fault out. out ≡ of_scale fault };
 

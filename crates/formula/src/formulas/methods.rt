@@ -1,9 +1,9 @@
 // Making a formula, reading its parts and adding to them.
-ghost use Rattle.std.specs.Prelude.{◌≡◌, ◌<◌, ◌≤◌, [], ◌∷◌, ◌++◌, length, IfOk, MatchBool, ◌==◌};
+ghost use Rattle.std.specs.Prelude.{◌≡◌, ◌<◌, ◌≤◌, [], ◌∷◌, ◌++◌, length, IfOk, MatchResult, ◌==◌};
 ghost use Rattle.formula.specs.Formulas.{parts_of};
 ghost use Rattle.formula.specs.Orders.{Fits, Ordered};
 
-use crate::formulas::{Formula, MAX_PARTS};
+use crate::formulas::{Formula, MAX_PARTS, Misplaced};
 use crate::parts::Part;
 use std::alloc::{AllocError, Global};
 
@@ -41,27 +41,16 @@ impl<K: Copy> Formula<K> {
     {
         self.parts.clear();
     }
-    // Adds a part after the others. Refused, with nothing changed, where there is no room for one more or an operand does
-    // not come before the part. Answers whether the part was taken.
-    pub fn push(&mut self, part: Part<K>) -> bool
-        ensures { MatchBool result (Fits part (parts_of self.old) × (parts_of self.new ≡ parts_of self.old ++ part ∷ [])) ((Fits part (parts_of self.old) → ⊥) × (parts_of self.new ≡ parts_of self.old)) }
+
+    // Adds a part after the others, and answers its number. A refused part leaves the formula as it was.
+    pub fn push(&mut self, part: Part<K>) -> Result<usize, Misplaced>
+        ensures { MatchResult result (λ number. Fits part (parts_of self.old) × (parts_of self.new ≡ parts_of self.old ++ part ∷ []) × (number ≡ length (parts_of self.old))) (λ _. (Fits part (parts_of self.old) → ⊥) × (parts_of self.new ≡ parts_of self.old)) }
     {
         let number = self.len();
         if number == MAX_PARTS || !part.comes_after(number) {
-            return false;
+            return Err(Misplaced);
         }
-        self.append(part);
-        true
-    }
-
-    // Adds a part after the others, where it fits, and answers its number.
-    fn append(&mut self, part: Part<K>) -> usize
-        requires { Fits part (parts_of self.old) }
-        ensures items { parts_of self.new ≡ parts_of self.old ++ part ∷ [] }
-        ensures value { result ≡ length (parts_of self.old) }
-    {
-        let number = self.len();
         self.parts.push_reserved(part);
-        number
+        Ok(number)
     }
 }

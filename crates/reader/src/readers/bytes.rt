@@ -11,11 +11,7 @@ impl Cursor<'_> {
     pub fn peek(&self) -> Option<u8>
         ensures { MatchOption result (self.now.at ≡ length self.now.text.now) (Ahead self.now) }
     {
-        if self.at < self.text.len() {
-            Some(self.text[self.at])
-        } else {
-            None
-        }
+        self.text.get(self.at).copied()
     }
 
     // Passes the next byte, which is `byte`.

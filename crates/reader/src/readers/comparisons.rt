@@ -1,5 +1,5 @@
 // A comparison: a channel, a comparator and an operand.
-ghost use Rattle.std.specs.Prelude.{◌≡◌, ℕ, ◌-◌, ◌<◌, ◌≤◌, [], ◌∷◌, length, IfOk, IfErr, MatchBool, MatchResult, OnErr};
+ghost use Rattle.std.specs.Prelude.{◌≡◌, ℕ, ◌-◌, ◌<◌, ◌≤◌, [], ◌∷◌, length, IfOk, IfErr, MatchBool, MatchResult, OnErr, slice_index};
 ghost use Rattle.scale.specs.Marks.{RunByte};
 ghost use Rattle.reader.specs.Cursors.{Ahead, Digit, Passes, rest};
 ghost use Rattle.text.specs.Faults.{Blames};
@@ -44,25 +44,18 @@ impl Cursor<'_> {
     pub fn comparator(&mut self) -> Result<Comparator, TextFault>
         ensures { MatchResult result (λ v. Passes self.old self.new (comparator_text v) 0 × (length (comparator_text v) ≡ 1 → Ahead self.new 61 → ⊥)) (λ e. (e ≡ TextFault.Form self.old.at) × (Ahead self.old 60 → ⊥) × (Ahead self.old 62 → ⊥)) }
     {
-        match self.peek() {
-            Some(b'<') => {
-                self.pass(b'<');
-                Ok(if self.takes(b'=') {
-                    Comparator::AtMost
-                } else {
-                    Comparator::Less
-                })
-            }
-            Some(b'>') => {
-                self.pass(b'>');
-                Ok(if self.takes(b'=') {
-                    Comparator::AtLeast
-                } else {
-                    Comparator::Greater
-                })
-            }
-            _ => Err(self.misfit()),
-        }
+        let sign = match self.peek() {
+            Some(sign @ (b'<' | b'>')) => sign,
+            _ => return Err(self.misfit()),
+        };
+        self.pass(sign);
+        let or_equal = self.takes(b'=');
+        Ok(match (sign, or_equal) {
+            (b'<', false) => Comparator::Less,
+            (b'<', true) => Comparator::AtMost,
+            (_, false) => Comparator::Greater,
+            (_, true) => Comparator::AtLeast,
+        })
     }
 
     // The longest run of small letters, digits and `-`, of which there has to be one.
@@ -70,12 +63,11 @@ impl Cursor<'_> {
         ensures { MatchResult result (λ run. IsRun self.old.text.now run × (run.start ≡ self.old.at) × (run.end ≡ self.new.at) × Passes self.old self.new (bytes_in self.old.text.now run) 0) (λ e. (e ≡ TextFault.Form self.old.at) × ((b : ℕ) → RunByte b → Ahead self.old b → ⊥)) }
     {
         let start = self.at;
-        while self.at < self.text.len() && is_run_byte(self.text[self.at]) {
-            self.at += 1;
-        }
-        if self.at == start {
+        let length = run_length(&self.text[start..]);
+        if length == 0 {
             return Err(self.misfit());
         }
+        self.at += length;
         Ok(Run {
             start,
             end: self.at,
@@ -122,10 +114,16 @@ impl Cursor<'_> {
 fn is_run_byte(byte: u8) -> bool
     ensures { MatchBool result (RunByte byte) (RunByte byte → ⊥) }
 {
-    match byte {
-        b'a'..=b'z' | b'0'..=b'9' | b'-' => true,
-        _ => false,
-    }
+    matches!(byte, b'a'..=b'z' | b'0'..=b'9' | b'-')
+}
+
+// How many bytes at a text's front can stand in a run.
+fn run_length(text: &[u8]) -> usize
+    ensures within { result ≤ length text.now }
+    ensures each { (k : ℕ) → k < result → RunByte (slice_index text.now k) }
+    ensures longest { result < length text.now → RunByte (slice_index text.now result) → ⊥ }
+{
+    text.iter().take_while(|byte| is_run_byte(**byte)).count()
 }
 
 // What a run stands for: a limit, a channel, or else a constant that the scale is to read.

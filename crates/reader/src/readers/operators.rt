@@ -1,4 +1,4 @@
-// The operators of a rule.
+// The operators of a rule. Bytes become operators by functions: the types are of another crate, so it is not for a `TryFrom`.
 ghost use Rattle.std.specs.Prelude.{◌≡◌, ◌+◌, ◌⊎◌, [], ◌∷◌, MatchOption, MatchResult, ◌≢◌};
 ghost use Rattle.formula.specs.declared.parts.BinaryOperator.{BinaryOperator};
 ghost use Rattle.formula.specs.declared.parts.UnaryOperator.{UnaryOperator};

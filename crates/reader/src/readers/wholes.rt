@@ -8,7 +8,7 @@ ghost use Rattle.reader.specs.Halts.{Fails, halt, Halts};
 ghost use Rattle.reader.specs.Reads.{AllDrawn, Reads, Spelt};
 ghost use Rattle.reader.specs.Told.{Tells, ToldBy};
 
-use crate::appending::{append, append_binary};
+use crate::appending::append;
 use crate::readers::operators::unary_operator;
 use crate::readers::{Cursor, Run};
 use formula::{Formula, Part};
@@ -18,7 +18,7 @@ use text::TextFault;
 const MAX_BRACKETS: usize = 12;
 
 // Reads one formula in which at most `left` more brackets are open at once, and adds its parts to `out`. Answers the number
-// of its last part.
+// of its last part. Cursor and parts are no struct: each contract would then also tell that it holds the same `&mut`.
 fn formula(cursor: &mut Cursor<'_>, left: usize, out: &mut Formula<Run>) -> Result<usize, TextFault>
     requires { length (parts_of out.old) ≤ cursor.old.met }
     ensures drawn { AllDrawn cursor.old.text.now (parts_of out.old) → AllDrawn cursor.old.text.now (parts_of out.new) }
@@ -49,7 +49,14 @@ fn formula(cursor: &mut Cursor<'_>, left: usize, out: &mut Formula<Run>) -> Resu
     cursor.open(left)?;
     let right_operand = formula(cursor, left - 1, out)?;
     cursor.expect(b')')?;
-    Ok(append_binary(out, operator, left_operand, right_operand))
+    Ok(append(
+        out,
+        Part::Binary {
+            operator,
+            left: left_operand,
+            right: right_operand,
+        },
+    ))
 }
 
 // Reads a whole text. The parts that were read stay in `out` also where the text is refused.

@@ -1,19 +1,18 @@
 // The lists of all parts at one point, and the walk over the points.
-ghost use Rattle.std.specs.Prelude.{◌≡◌, ◌<◌, ◌≤◌, [], length, replicate, IfOk, vec_len};
-ghost use Rattle.formula.specs.Orders.{Ordered};
+ghost use Rattle.std.specs.Prelude.{◌≡◌, ◌<◌, ◌≤◌, [], length, replicate, IfOk, OnErr, vec_len};
 ghost use Rattle.solver.specs.Complete.{Completes};
-ghost use Rattle.solver.specs.Derived.{RowEnds, Solves, row_from};
+ghost use Rattle.solver.specs.Derived.{RowEnds, Solves, row_from, told};
 ghost use Rattle.domain.specs.Listed.{boxes_of};
 ghost use Rattle.formula.specs.Formulas.{parts_of};
 ghost use Rattle.solver.specs.Labels.{Idle, Settles, labelled, row_of};
 ghost use Rattle.solver.specs.Steps.{span};
 
-use crate::labels::label;
+use crate::labels::Scratch;
 use crate::signs::signs_of;
 use crate::solvers::{SolveFault, Solver};
 use crate::steps::{Step, step_at};
-use domain::Domain;
-use formula::{Formula, MAX_PARTS, Part};
+use domain::{Domain, Full};
+use formula::{Formula, MAX_PARTS};
 use recording::Recording;
 use scale::Scale;
 use std::alloc::{AllocError, Global};
@@ -41,51 +40,42 @@ impl<S: Scale> Solver<S> {
         Ok(Solver {
             here,
             next,
-            work,
-            spare,
+            scratch: Scratch { work, spare },
         })
     }
 
-    // The list of one part at a point goes to its place. Answers false where it would have had a box too many.
-    fn settle(&mut self, step: Step<S>, number: usize) -> bool
+    // The list of one part at a point goes to its place. Refused where it would have had a box too many.
+    fn settle(&mut self, step: Step<S>, number: usize) -> Result<(), Full>
         requires span { span step ≤ number }
         requires number { number < 24 }
         ensures settled { Settles result (row_of self.old.here) number (labelled S.rank (row_of self.old.here) (row_of self.old.next) number step) (row_of self.new.here) }
         ensures same { self.new.next ≡ self.old.next }
     {
-        let end = label(
-            step,
-            number,
-            self.here.as_slice(),
-            self.next.as_slice(),
-            &mut self.work,
-            &mut self.spare,
-        );
-        if end.is_err() {
-            return false;
-        }
-        std::mem::swap(&mut self.here[number], &mut self.work);
-        true
+        self.scratch
+            .label(step, number, self.here.as_slice(), self.next.as_slice())?;
+        std::mem::swap(&mut self.here[number], &mut self.scratch.work);
+        Ok(())
     }
 
-    // The lists of all parts at a point, upwards. Refused with the part whose list would have had a box too many.
+    // The lists of all parts at a point, upwards. Refused at the part whose list would have had a box too many.
     fn settle_point<R: Recording<Mark = S>>(
         &mut self,
         recording: &R,
         point: usize,
-        parts: &[Part<S>],
+        formula: &Formula<S>,
         signs: &[bool; MAX_PARTS],
-    ) -> Result<(), usize>
-        requires few { length parts.now ≤ 24 }
-        requires ordered { Ordered parts.now }
-        ensures settled { RowEnds result (length parts.now) (row_of self.new.here) (row_from S.rank (R.meaning recording.now).mark (R.meaning recording.now).points signs.now point (row_of self.old.next) parts.now []) }
+    ) -> Result<(), SolveFault>
+        ensures settled { RowEnds result (length (parts_of formula.now)) (row_of self.new.here) (told point (row_from S.rank (R.meaning recording.now).mark (R.meaning recording.now).points signs.now point (row_of self.old.next) (parts_of formula.now) [])) }
         ensures same { self.new.next ≡ self.old.next }
     {
-        for number in 0..parts.len() {
-            let step = step_at(recording, point, parts[number], signs[number]);
-            if !self.settle(step, number) {
-                return Err(number);
-            }
+        for (number, part) in formula.parts().iter().enumerate() {
+            let step = step_at(recording, point, *part, signs[number]);
+            let Ok(()) = self.settle(step, number) else {
+                return Err(SolveFault::Full {
+                    point,
+                    part: number,
+                });
+            };
         }
         Ok(())
     }
@@ -99,6 +89,7 @@ impl<S: Scale> Solver<S> {
         answer: &mut Domain<S>,
     ) -> Result<usize, SolveFault>
         ensures derived { Solves S.rank (R.meaning recording.now).mark (R.meaning recording.now).points (parts_of formula.now) result point (boxes_of answer.old) (boxes_of answer.new) }
+        ensures kept { OnErr result (boxes_of answer.new ≡ boxes_of answer.old) }
         ensures complete { Completes S.rank (R.meaning recording.now).mark (R.meaning recording.now).points (parts_of formula.now) result point (boxes_of answer.new) }
     {
         if formula.is_blank() {
@@ -108,15 +99,12 @@ impl<S: Scale> Solver<S> {
         if point >= points {
             return Err(SolveFault::NoPoint);
         }
-        let parts = formula.parts();
-        let signs = signs_of(parts);
+        let signs = signs_of(formula);
         for at in (point..points).rev() {
-            if let Err(part) = self.settle_point(recording, at, parts, &signs) {
-                return Err(SolveFault::Full { point: at, part });
-            }
+            self.settle_point(recording, at, formula, &signs)?;
             std::mem::swap(&mut self.here, &mut self.next);
         }
-        std::mem::swap(answer, &mut self.next[parts.len() - 1]);
+        std::mem::swap(answer, &mut self.next[formula.len() - 1]);
         Ok(answer.len())
     }
 }

@@ -5,7 +5,8 @@ use Rattle.bench.proofs.Fitting.{follow}
 use Rattle.bench.proofs.settings.fit_parts.Given as goal
 
 -- the parts so far stand, and the ones from here on have yet to be fitted
-abbrev pub invariant-loop-part : goal.invariant-loop-part
-invariant-loop-part g l =
+abbrev pub invariant-loop-number : goal.invariant-loop-number
+invariant-loop-number g l =
     let fit = fitted_from g.S.Scale.named l.channels in
-    (length (parts_of l.fresh) ≡ l.part) × (fit 0 l.parts ≡ follow (parts_of l.fresh) (fit l.part (drop l.part l.parts)))
+    let parts = parts_of l.formula in
+    (length (parts_of l.fresh) ≡ l.number) × (fit 0 parts ≡ follow (parts_of l.fresh) (fit l.number (drop l.number parts)))

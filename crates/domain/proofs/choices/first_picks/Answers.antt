@@ -1,6 +1,6 @@
 use Rattle.std.proofs.Common.{◌≡◌, ◌+◌, List, drop, Option, sym, refl, ap, ◌∙◌, subst}
 use Rattle.domain.specs.Listed.{sides_in}
-use Rattle.domain.specs.Picking.{Finds, first_picked, or_else, three}
+use Rattle.domain.specs.Picking.{Finds, first_picked, or_else, chosen}
 use Rattle.domain.proofs.Growing.{boxes_at, boxes_end}
 use Rattle.domain.proofs.Picked.{finds, no_picks, some_picks, wide_boxes}
 use Rattle.domain.proofs.choices.first_picks.Given as given
@@ -8,7 +8,7 @@ use Rattle.domain.proofs.choices.first_picks.Goals as goal
 use Rattle.domain.proofs.choices.first_picks.Goals.{After-pick-marks}
 
 -- this box decides, or those behind it
-step : (g : given.Over) (c : After-pick-marks g) → first_picked g.S.Scale.picked (sides_in c.args.boxes.now) ≡ or_else (three c.pick-marks.result) (first_picked g.S.Scale.picked (drop (c.loop-b.b-index + 1) (sides_in c.args.boxes.now)))
+step : (g : given.Over) (c : After-pick-marks g) → first_picked g.S.Scale.picked (sides_in c.args.boxes.now) ≡ or_else (chosen c.pick-marks.result) (first_picked g.S.Scale.picked (drop (c.loop-b.b-index + 1) (sides_in c.args.boxes.now)))
 step g c =
     let picked = g.S.Scale.picked in
     let rest = first_picked picked (drop (c.loop-b.b-index + 1) (sides_in c.args.boxes.now)) in

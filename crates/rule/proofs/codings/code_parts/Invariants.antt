@@ -9,4 +9,4 @@ use Rattle.rule.proofs.codings.code_parts.Given as goal
 abbrev pub invariant-loop-part : goal.invariant-loop-part
 invariant-loop-part g l =
     (length (parts_of l.fresh) ≡ l.part-index)
-    × ((i : ℕ) (d : Part Run) (e : Part ℕ) → i < l.part-index → CodedPart g.S.Scale.code g.S.Scale.text l.text (get_or l.parts i d) (get_or (parts_of l.fresh) i e))
+    × ((i : ℕ) (d : Part Run) (e : Part ℕ) → i < l.part-index → CodedPart g.S.Scale.code g.S.Scale.text l.text (get_or l.part-items i d) (get_or (parts_of l.fresh) i e))

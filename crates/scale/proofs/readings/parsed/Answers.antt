@@ -23,4 +23,4 @@ pub returns : goal.returns
 returns c = λ m e.
     let read : Ok c.in-Ok-parse.number ≡ Ok m.value = sym c.in-Ok-parse.is ∙ back (goal.at.returns c).After-parse m e in
     let number : c.in-Ok-parse.number ≡ m.value = cc in
-    ap Some (same_reading c.new.result m (c.new.ensures ∙ to_z-of_z w32 c.in-Ok-parse.number (search rules) ∙ number))
+    ap Some (same_reading c.new.result m (c.new.ensures.value ∙ to_z-of_z w32 c.in-Ok-parse.number (search rules) ∙ number))

@@ -9,5 +9,5 @@ returns g c =
       tape = done.tape;
       rule = done.rule;
       standing = done.standing;
-      law = change_law g.R.Mark.Scale.rank g.R.Recording.meaning (λ m a n. Added g.R.Mark.Scale.resting m c.args.tick a n) (λ m n f h. add_refused g.R.Mark.Scale.resting m n c.args.tick f h) c.args.self.now c.add_point.new.self c.add_point.result done.tape done.rule done.standing;
+      law = change_law g.R.Mark.Scale.rank g.R.Recording.meaning (λ m a n. Added g.R.Mark.Scale.resting m c.args.tick a n) (λ m n f h. add_refused g.R.Mark.Scale.resting m n c.args.tick f h) c.args.self.now c.add_point.new.self c.add_point.result done.tape done.rule;
     }

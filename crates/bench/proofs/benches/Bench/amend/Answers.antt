@@ -9,5 +9,5 @@ returns g c =
       tape = done.tape;
       rule = done.rule;
       standing = done.standing;
-      law = change_law g.R.Mark.Scale.rank g.R.Recording.meaning (λ m a n. CodeAmended g.R.Mark.Scale.named m c.args.point c.args.channel c.args.code a n) (λ m n f h. amend_refused g.R.Mark.Scale.named m n c.args.point c.args.channel c.args.code f h) c.args.self.now c.amend_mark.new.self c.amend_mark.result done.tape done.rule done.standing;
+      law = change_law g.R.Mark.Scale.rank g.R.Recording.meaning (λ m a n. CodeAmended g.R.Mark.Scale.named m c.args.point c.args.channel c.args.code a n) (λ m n f h. amend_refused g.R.Mark.Scale.named m n c.args.point c.args.channel c.args.code f h) c.args.self.now c.amend_mark.new.self c.amend_mark.result done.tape done.rule;
     }

@@ -9,5 +9,5 @@ returns g c =
       rule = done.rule;
       recording = done.recording;
       standing = done.standing;
-      law = set_law g.R.Mark.Scale.rank g.R.Recording.meaning g.R.Mark.Scale.named c.args.self.now c.put_in_force.new.self (rule_parts c.args.rule) c.put_in_force.result done.rule done.recording done.standing;
+      law = set_law g.R.Mark.Scale.rank g.R.Recording.meaning g.R.Mark.Scale.named c.args.self.now c.put_in_force.new.self (rule_parts c.args.rule) c.put_in_force.result done.rule done.recording;
     }

@@ -9,5 +9,5 @@ returns g c =
       tape = done.tape;
       rule = done.rule;
       standing = done.standing;
-      law = change_law g.R.Mark.Scale.rank g.R.Recording.meaning (λ m a n. Withdrawn m a n) (λ m n f h. withdraw_refused m n f h) c.args.self.now c.withdraw_point.new.self c.withdraw_point.result done.tape done.rule done.standing;
+      law = change_law g.R.Mark.Scale.rank g.R.Recording.meaning (λ m a n. Withdrawn m a n) (λ m n f h. withdraw_refused m n f h) c.args.self.now c.withdraw_point.new.self c.withdraw_point.result done.tape done.rule;
     }

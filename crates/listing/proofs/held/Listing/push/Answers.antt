@@ -1,18 +1,13 @@
-use Rattle.std.proofs.Common.{refl, ◌∙◌, arith, rules}
-use Rattle.std.proofs.lemmas.List.{places}
-use Rattle.listing.proofs.Behind.{pushed}
+use Rattle.std.proofs.Common.{◌≡◌, ◌++◌, length, take, ◌∙◌, length-take-le, arith}
+use Rattle.listing.proofs.Behind.{pushed, taken}
 use Rattle.listing.proofs.held.Listing.push.Goals as goal
 
-pub invariant_of-self : goal.invariant_of-self
-invariant_of-self c = search (rules, places)
-
-pub returns : goal.returns
-returns c =
-    let l = c.args.self.now in
+pub returns-clause-text : goal.returns-clause-text
+returns-clause-text c =
+    let held = c.args.self.now.text in
     let bytes = c.args.bytes.now in
-    let k = c.min-count.result in
-    let part = c.copy_from_slice.new.self in
-    record {
-      text = pushed l.bytes _ bytes part l.len k (omega (arith, l.within, l.whole)) l.within c.min-count.ensures (c.copy_from_slice.ensures.after ∙ c.split_at.ensures.front);
-      begun = refl;
-    }
+    let count = c.min-count.result in
+    let added = c.try_extend_from_slice in
+    let part : length (take count bytes) ≡ count = length-take-le count bytes (omega (arith, c.min-count.ensures)) in
+    taken added.result (added.new.self.items ≡ held.items ++ take count bytes) (added.ensures.variant.1 (omega (arith, part, c.min-count.ensures, c.remaining_capacity.ensures))) added.ensures.ok
+    ∙ pushed held.items bytes c.remaining_capacity.result count c.remaining_capacity.ensures c.min-count.ensures

@@ -71,8 +71,8 @@ formula-requires-3 t c =
       ),
     )
 
-pub append_binary-requires : goal.append_binary-requires
-append_binary-requires t c =
+pub append-requires-2 : goal.append-requires-2
+append-requires-2 t c =
     let q = c.in_ok-left_operand.ensures.read in
     let q' = c.in_ok-right_operand.ensures.read in
     record {
@@ -108,19 +108,19 @@ returns t c =
     record {
       drawn =
           λ all.
-          drawn_more _ _ _ _ c.append_binary.ensures.items tt
+          drawn_more _ _ _ _ c.append-2.ensures.items tt
           (drawn_in _ _ _ _ text right.drawn (drawn_in _ _ _ _ enter.0.same left.drawn all));
       halts = tt;
       blames = tt;
       missing = tt;
       told = λ behind.
-          tells_part _ refl c.append_binary.ensures.items
+          tells_part _ refl c.append-2.ensures.items
           (past_close here (right.read.spelled.same ∙ text) c.in_ok-expect-3.ensures.1
           (through_right here (operator.same ∙ there) again
           (past_operator here c.in_ok-operator.operator there operator (past_close here (left.read.spelled.same ∙ enter.0.same) close (through_left enter.0 left.told)))
           right.told));
       read =
-          binary_read _ _ _ _ _ _ _ _ _ _ _ _ _ _ _ _ _ enter.0 enter.1 left.read close operator again right.read c.in_ok-expect-3.ensures.1 c.append_binary.ensures.items c.append_binary.ensures.value;
+          binary_read _ _ _ _ _ _ _ _ _ _ _ _ _ _ _ _ _ enter.0 enter.1 left.read close operator again right.read c.in_ok-expect-3.ensures.1 c.append-2.ensures.items c.append-2.ensures.value;
     }
 
 -- no formula begins where the reading stopped

@@ -1,4 +1,5 @@
 use Rattle.std.proofs.Common.{◌≡◌, [], take, drop}
+use Rattle.formula.specs.Formulas.{parts_of}
 use Rattle.solver.specs.Derived.{row_from}
 use Rattle.solver.specs.Labels.{row_of}
 use Rattle.solver.proofs.solvers.Solver.settle_point.Given as goal
@@ -8,4 +9,5 @@ abbrev pub invariant-loop-number : goal.invariant-loop-number
 invariant-loop-number g l =
     let told = g.R.Recording.meaning l.recording in
     let row = row_from g.S.Scale.rank told.mark told.points l.signs l.point (row_of l.initial.self.next) in
-    (l.self.next ≡ l.initial.self.next) × (row l.parts [] ≡ row (drop l.number l.parts) (take l.number (row_of l.self.here)))
+    let parts = parts_of l.formula in
+    (l.self.next ≡ l.initial.self.next) × (row parts [] ≡ row (drop l.number parts) (take l.number (row_of l.self.here)))
