@@ -18,9 +18,6 @@ use Rattle.solver.specs.Truth.{Exactly, choice_of}
 use Rattle.solver.proofs.Completing.{derived_true}
 use Rattle.recording.specs.declared.recordings.Recording.{Ghosts as RecordingGhosts}
 use Rattle.scale.specs.declared.scales.Scale.{Ghosts as ScaleGhosts}
-use Rattle.std.specs.declared.cmp.Ord.{Ghosts as OrdGhosts}
-use Rattle.std.specs.declared.cmp.PartialEq.{Ghosts as EqGhosts}
-use Rattle.std.specs.declared.cmp.PartialOrd.{Ghosts as PartialGhosts}
 use Rattle.bench.specs.declared.benches.Bench.{Bench}
 use Rattle.bench.specs.declared.faults.BenchFault.{BenchFault}
 use Rattle.bench.specs.Asks.{Asks, Finds, three, three_named}
@@ -68,16 +65,16 @@ module _ {S : Type 0} (rank : S → ℕ) (fits : (m : S) → rank m < 2 ^ 32) wh
   find_of m rule None list code picked ordered few fresh right answer h = h
   find_of m rule (Some point) list code picked ordered few fresh right answer h = (h.0, h.1, found_of m rule point list code (covers_truth m rule point list ordered few fresh) (first_picked picked list) right h.0 h.2)
 
-module _ {S R : Type 0} {telling : RecordingGhosts R S} {scale : ScaleGhosts S} {ord : OrdGhosts S} {eq : EqGhosts S} {partial : PartialGhosts S} (fits : (m : S) → scale.rank m < 2 ^ 32) where
+module _ {S R : Type 0} {telling : RecordingGhosts R S} {scale : ScaleGhosts S} (fits : (m : S) → scale.rank m < 2 ^ 32) where
   -- the list of a bench belongs to what the bench stands for
-  fresh_of : (v : View S) (b : Bench R S telling scale ord eq partial) → Agrees telling.meaning v b → Fresh scale.rank v.told (parts_in_force v.rule) v.solved (boxes_of b.standing)
+  fresh_of : (v : View S) (b : Bench R S telling scale) → Agrees telling.meaning v b → Fresh scale.rank v.told (parts_in_force v.rule) v.solved (boxes_of b.standing)
   fresh_of v b agrees = still_fresh scale.rank _ _ _ _ _ _ (boxes_of b.standing) agrees.told agrees.rule agrees.solved b.stands
 
-  pub ask_law : (named : ℕ → Option S) (b : Bench R S telling scale ord eq partial) (p q r : ℕ) (answer : Result Bool BenchFault) → Asks scale.rank b.solved (boxes_of b.standing) (three_named named p q r) answer → AskLaw scale.rank telling.meaning named b p q r answer
+  pub ask_law : (named : ℕ → Option S) (b : Bench R S telling scale) (p q r : ℕ) (answer : Result Bool BenchFault) → Asks scale.rank b.solved (boxes_of b.standing) (three_named named p q r) answer → AskLaw scale.rank telling.meaning named b p q r answer
   ask_law named b p q r answer h v agrees =
       ask_of scale.rank fits v.told v.rule v.solved (boxes_of b.standing) (subst Ordered agrees.rule b.formula.ordered) (subst (λ l. length l ≤ 24) agrees.rule (few_parts b.formula)) (fresh_of v b agrees) (named p) (named q) (named r) answer (subst (λ s. Asks scale.rank s (boxes_of b.standing) (three_named named p q r) answer) agrees.solved h)
 
-  pub find_law : (code : S → ℕ) (picked : Cut S → Cut S → Option S) → ((l u : Cut S) → Picks scale.rank l u (picked l u)) → (b : Bench R S telling scale ord eq partial) (answer : Result (Option (ℕ × ℕ × ℕ)) BenchFault) → Finds code picked b.solved (boxes_of b.standing) answer → FindLaw scale.rank telling.meaning code b answer
+  pub find_law : (code : S → ℕ) (picked : Cut S → Cut S → Option S) → ((l u : Cut S) → Picks scale.rank l u (picked l u)) → (b : Bench R S telling scale) (answer : Result (Option (ℕ × ℕ × ℕ)) BenchFault) → Finds code picked b.solved (boxes_of b.standing) answer → FindLaw scale.rank telling.meaning code b answer
   find_law code picked picks b answer h v agrees =
       let list = boxes_of b.standing in
       find_of scale.rank fits v.told v.rule v.solved list code picked (subst Ordered agrees.rule b.formula.ordered) (subst (λ l. length l ≤ 24) agrees.rule (few_parts b.formula)) (fresh_of v b agrees) (finds scale.rank picked picks 3 list (wide_boxes (vec_items b.standing.boxes))) answer (subst (λ s. Finds code picked s list answer) agrees.solved h)

@@ -16,9 +16,6 @@ use Rattle.solver.specs.declared.solvers.SolveFault.{SolveFault}
 use Rattle.solver.specs.declared.solvers.SolveFault.TheVariants.{Blank, NoPoint as past_point, Full as full_list}
 use Rattle.recording.specs.declared.recordings.Recording.{Ghosts as RecordingGhosts}
 use Rattle.scale.specs.declared.scales.Scale.{Ghosts as ScaleGhosts}
-use Rattle.std.specs.declared.cmp.Ord.{Ghosts as OrdGhosts}
-use Rattle.std.specs.declared.cmp.PartialEq.{Ghosts as EqGhosts}
-use Rattle.std.specs.declared.cmp.PartialOrd.{Ghosts as PartialGhosts}
 use Rattle.bench.specs.declared.benches.Bench.{Bench}
 use Rattle.bench.specs.declared.faults.BenchFault.{BenchFault}
 use Rattle.bench.specs.declared.faults.BenchFault.TheVariants.{Tape, Record, Part as part_fault, NoRule, Unsolved, Full, Ragged, Room}
@@ -77,16 +74,16 @@ set_ok named channels (p ∷ ps) parts some e w =
     (λ tree. tree)
     (whole_tree parts w)
 
-module _ {S R : Type 0} {telling : RecordingGhosts R S} {scale : ScaleGhosts S} {ord : OrdGhosts S} {eq : EqGhosts S} {partial : PartialGhosts S} (rank : S → ℕ) (meaning : R → Meaning S) where
+module _ {S R : Type 0} {telling : RecordingGhosts R S} {scale : ScaleGhosts S} (rank : S → ℕ) (meaning : R → Meaning S) where
   -- a bench that changed in nothing that a view tells
-  pub agrees_still : (v : View S) (before after : Bench R S telling scale ord eq partial) → meaning after.recording ≡ meaning before.recording → parts_of after.formula ≡ parts_of before.formula → after.solved ≡ before.solved → Agrees meaning v before → Agrees meaning v after
+  pub agrees_still : (v : View S) (before after : Bench R S telling scale) → meaning after.recording ≡ meaning before.recording → parts_of after.formula ≡ parts_of before.formula → after.solved ≡ before.solved → Agrees meaning v before → Agrees meaning v after
   agrees_still v before after tells rule solved a = record {
     told = tells ∙ a.told;
     rule = rule ∙ a.rule;
     solved = solved ∙ a.solved;
   }
 
-  pub change_law : (does : Meaning S → Result (Unit {0}) TapeFault → Meaning S → Type 0) → ((m n : Meaning S) (f : TapeFault) → does m (Err f) n → n ≡ m) → (before after : Bench R S telling scale ord eq partial) (answer : Result (Unit {0}) BenchFault) → Changes (λ a. does (meaning before.recording) a (meaning after.recording)) answer before.solved after.solved → after.formula ≡ before.formula → ChangeLaw rank meaning does before answer after
+  pub change_law : (does : Meaning S → Result (Unit {0}) TapeFault → Meaning S → Type 0) → ((m n : Meaning S) (f : TapeFault) → does m (Err f) n → n ≡ m) → (before after : Bench R S telling scale) (answer : Result (Unit {0}) BenchFault) → Changes (λ a. does (meaning before.recording) a (meaning after.recording)) answer before.solved after.solved → after.formula ≡ before.formula → ChangeLaw rank meaning does before answer after
   change_law does refused before after (Ok u) h rule v a = (meaning after.recording, subst (λ m. does m (Ok u) (meaning after.recording)) a.told h.0, record { told = refl; rule = ap parts_of rule ∙ a.rule; solved = h.1 })
   change_law does refused before after (Err fault) h rule v a =
       let f = h.0 in
@@ -95,7 +92,7 @@ module _ {S R : Type 0} {telling : RecordingGhosts R S} {scale : ScaleGhosts S} 
       (f, h.1, subst (λ m. does m (Err f) m) a.told was, agrees_still v before after same (ap parts_of rule) h.3 a)
 
   -- a refused solve
-  refused_solve : (before after : Bench R S telling scale ord eq partial) (point : ℕ) (v : View S) → Agrees meaning v before → meaning after.recording ≡ meaning before.recording → parts_of after.formula ≡ parts_of before.formula → (f : SolveFault) → Solves rank (meaning before.recording).mark (meaning before.recording).points (parts_of before.formula) (Err f) point (boxes_of before.standing) (boxes_of after.standing) → after.solved ≡ before.solved → SolveRight rank v point (Err (solve_fault f)) × Agrees meaning v after
+  refused_solve : (before after : Bench R S telling scale) (point : ℕ) (v : View S) → Agrees meaning v before → meaning after.recording ≡ meaning before.recording → parts_of after.formula ≡ parts_of before.formula → (f : SolveFault) → Solves rank (meaning before.recording).mark (meaning before.recording).points (parts_of before.formula) (Err f) point (boxes_of before.standing) (boxes_of after.standing) → after.solved ≡ before.solved → SolveRight rank v point (Err (solve_fault f)) × Agrees meaning v after
   refused_solve before after point v a tells rule Blank h solved = (no_force v.rule (parts_of before.formula) a.rule h.0, agrees_still v before after tells rule solved a)
   refused_solve before after point v a tells rule past_point h solved =
       let f = in_force v.rule (parts_of before.formula) a.rule h.0 in
@@ -104,7 +101,7 @@ module _ {S R : Type 0} {telling : RecordingGhosts R S} {scale : ScaleGhosts S} 
       let f = in_force v.rule (parts_of before.formula) a.rule h.0 in
       ((f.0, f.1, subst (λ x. point < x.points) a.told h.1, same_derived rank v.told (meaning before.recording) (numbered 0 f.0) (parts_of before.formula) point a.told f.2 ∙ h.2), agrees_still v before after tells rule solved a)
 
-  pub solve_law : (before after : Bench R S telling scale ord eq partial) (point : ℕ) (answer : Result ℕ BenchFault) → Solved rank (meaning before.recording) (parts_of before.formula) answer point (boxes_of before.standing) (boxes_of after.standing) before.solved after.solved → after.recording ≡ before.recording → after.formula ≡ before.formula → SolveLaw rank meaning before point answer after
+  pub solve_law : (before after : Bench R S telling scale) (point : ℕ) (answer : Result ℕ BenchFault) → Solved rank (meaning before.recording) (parts_of before.formula) answer point (boxes_of before.standing) (boxes_of after.standing) before.solved after.solved → after.recording ≡ before.recording → after.formula ≡ before.formula → SolveLaw rank meaning before point answer after
   solve_law before after point (Ok count) h recording rule v a =
       let m = meaning before.recording in
       let parts = parts_of before.formula in
@@ -123,7 +120,7 @@ module _ {S R : Type 0} {telling : RecordingGhosts R S} {scale : ScaleGhosts S} 
   solve_law before after point (Err fault) h recording rule v a =
       subst (λ f. SolveRight rank v point (Err f) × Agrees meaning v after) (sym h.1) (refused_solve before after point v a (ap meaning recording) (ap parts_of rule) h.0 h.2 h.3)
 
-  pub set_law : (named : ℕ → Option S) (before after : Bench R S telling scale ord eq partial) (rule : List (Part ℕ)) (answer : Result (Unit {0}) BenchFault) → Sets named (meaning before.recording).channels rule answer (parts_of before.formula) (parts_of after.formula) before.solved after.solved → after.recording ≡ before.recording → SetLaw rank meaning named before rule answer after
+  pub set_law : (named : ℕ → Option S) (before after : Bench R S telling scale) (rule : List (Part ℕ)) (answer : Result (Unit {0}) BenchFault) → Sets named (meaning before.recording).channels rule answer (parts_of before.formula) (parts_of after.formula) before.solved after.solved → after.recording ≡ before.recording → SetLaw rank meaning named before rule answer after
   set_law named before after rule (Ok u) h recording v a =
       let t = set_ok named (meaning before.recording).channels rule (parts_of after.formula) h.0 h.1 after.whole in
       (t.0, ap (λ m. fitted_from named m.channels 0 rule) (sym a.told) ∙ h.1 ∙ ap Ok t.1, record { told = ap meaning recording ∙ a.told; rule = t.1; solved = h.2 })

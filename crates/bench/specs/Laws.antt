@@ -13,9 +13,6 @@ use Rattle.formula.specs.declared.parts.LimitName.{LimitName}
 use Rattle.formula.specs.declared.parts.LimitName.TheVariants.{P, Q, R}
 use Rattle.recording.specs.declared.recordings.Recording.{Ghosts as RecordingGhosts}
 use Rattle.scale.specs.declared.scales.Scale.{Ghosts as ScaleGhosts}
-use Rattle.std.specs.declared.cmp.Ord.{Ghosts as OrdGhosts}
-use Rattle.std.specs.declared.cmp.PartialEq.{Ghosts as EqGhosts}
-use Rattle.std.specs.declared.cmp.PartialOrd.{Ghosts as PartialGhosts}
 use Rattle.bench.specs.declared.benches.Bench.{Bench}
 use Rattle.bench.specs.declared.faults.BenchFault.{BenchFault}
 use Rattle.bench.specs.declared.faults.BenchFault.TheVariants.{Tape, Record, Part, NoRule, Unsolved, Full, Ragged, Room}
@@ -40,7 +37,7 @@ module _ {S : Type 0} (rank : S → ℕ) where
   AskRight named v p q r answer = IfSolved v.solved answer (AskedOf v (named p) (named q) (named r) answer)
 
   -- for every view that the bench stands for
-  abbrev pub AskLaw : {R : Type 0} {telling : RecordingGhosts R S} {scale : ScaleGhosts S} {ord : OrdGhosts S} {eq : EqGhosts S} {partial : PartialGhosts S} → (R → Meaning S) → (ℕ → Option S) → Bench R S telling scale ord eq partial → ℕ → ℕ → ℕ → Result Bool BenchFault → Type 0
+  abbrev pub AskLaw : {R : Type 0} {telling : RecordingGhosts R S} {scale : ScaleGhosts S} → (R → Meaning S) → (ℕ → Option S) → Bench R S telling scale → ℕ → ℕ → ℕ → Result Bool BenchFault → Type 0
   AskLaw meaning named b p q r answer = (v : View S) → Agrees meaning v b → AskRight named v p q r answer
 
   -- marks with which the formula in force is true there, or none where there are no such marks
@@ -51,7 +48,7 @@ module _ {S : Type 0} (rank : S → ℕ) where
   abbrev pub FindRight : (S → ℕ) → View S → Result (Option (ℕ × ℕ × ℕ)) BenchFault → Type 0
   FindRight code v answer = IfSolved v.solved answer ((codes : Option (ℕ × ℕ × ℕ)) × (answer ≡ Ok codes) × FoundOf code v codes)
 
-  abbrev pub FindLaw : {R : Type 0} {telling : RecordingGhosts R S} {scale : ScaleGhosts S} {ord : OrdGhosts S} {eq : EqGhosts S} {partial : PartialGhosts S} → (R → Meaning S) → (S → ℕ) → Bench R S telling scale ord eq partial → Result (Option (ℕ × ℕ × ℕ)) BenchFault → Type 0
+  abbrev pub FindLaw : {R : Type 0} {telling : RecordingGhosts R S} {scale : ScaleGhosts S} → (R → Meaning S) → (S → ℕ) → Bench R S telling scale → Result (Option (ℕ × ℕ × ℕ)) BenchFault → Type 0
   FindLaw meaning code b answer = (v : View S) → Agrees meaning v b → FindRight code v answer
 
   -- what the solver derives of a formula from what the recording tells
@@ -74,11 +71,11 @@ module _ {S : Type 0} (rank : S → ℕ) where
   after_solve v point (Ok count) = record { told = v.told; rule = v.rule; solved = Some point }
   after_solve v point (Err fault) = v
 
-  abbrev pub SolveLaw : {R : Type 0} {telling : RecordingGhosts R S} {scale : ScaleGhosts S} {ord : OrdGhosts S} {eq : EqGhosts S} {partial : PartialGhosts S} → (R → Meaning S) → Bench R S telling scale ord eq partial → ℕ → Result ℕ BenchFault → Bench R S telling scale ord eq partial → Type 0
+  abbrev pub SolveLaw : {R : Type 0} {telling : RecordingGhosts R S} {scale : ScaleGhosts S} → (R → Meaning S) → Bench R S telling scale → ℕ → Result ℕ BenchFault → Bench R S telling scale → Type 0
   SolveLaw meaning before point answer after = (v : View S) → Agrees meaning v before → SolveRight v point answer × Agrees meaning (after_solve v point answer) after
 
   -- taken with the rule's parts, marks for codes, which are those of the formula that is then in force
-  abbrev pub SetRight : {R : Type 0} {telling : RecordingGhosts R S} {scale : ScaleGhosts S} {ord : OrdGhosts S} {eq : EqGhosts S} {partial : PartialGhosts S} → (R → Meaning S) → (ℕ → Option S) → View S → List (Part' ℕ) → Result (Unit {0}) BenchFault → Bench R S telling scale ord eq partial → Type 0
+  abbrev pub SetRight : {R : Type 0} {telling : RecordingGhosts R S} {scale : ScaleGhosts S} → (R → Meaning S) → (ℕ → Option S) → View S → List (Part' ℕ) → Result (Unit {0}) BenchFault → Bench R S telling scale → Type 0
   SetRight meaning named v rule (Ok u) after = (t : Tree S) × (fitted_from named v.told.channels 0 rule ≡ Ok (numbered 0 t)) × Agrees meaning (record { told = v.told; rule = Some t; solved = None }) after
   SetRight meaning named v rule (Err NoRule) after = (length rule ≡ 0) × Agrees meaning v after
   SetRight meaning named v rule (Err (Part k fault)) after = (0 < length rule) × (fitted_from named v.told.channels 0 rule ≡ Err (k, fault)) × Agrees meaning v after
@@ -89,15 +86,15 @@ module _ {S : Type 0} (rank : S → ℕ) where
   SetRight meaning named v rule (Err Ragged) after = ⊥
   SetRight meaning named v rule (Err (Room needed)) after = ⊥
 
-  abbrev pub SetLaw : {R : Type 0} {telling : RecordingGhosts R S} {scale : ScaleGhosts S} {ord : OrdGhosts S} {eq : EqGhosts S} {partial : PartialGhosts S} → (R → Meaning S) → (ℕ → Option S) → Bench R S telling scale ord eq partial → List (Part' ℕ) → Result (Unit {0}) BenchFault → Bench R S telling scale ord eq partial → Type 0
+  abbrev pub SetLaw : {R : Type 0} {telling : RecordingGhosts R S} {scale : ScaleGhosts S} → (R → Meaning S) → (ℕ → Option S) → Bench R S telling scale → List (Part' ℕ) → Result (Unit {0}) BenchFault → Bench R S telling scale → Type 0
   SetLaw meaning named before rule answer after = (v : View S) → Agrees meaning v before → SetRight meaning named v rule answer after
 
   -- the tape's own answer to a change; an accepted one leaves the bench unsolved, a refused one all as it was
-  abbrev pub ChangeRight : {R : Type 0} {telling : RecordingGhosts R S} {scale : ScaleGhosts S} {ord : OrdGhosts S} {eq : EqGhosts S} {partial : PartialGhosts S} → (R → Meaning S) → (Meaning S → Result (Unit {0}) TapeFault → Meaning S → Type 0) → View S → Result (Unit {0}) BenchFault → Bench R S telling scale ord eq partial → Type 0
+  abbrev pub ChangeRight : {R : Type 0} {telling : RecordingGhosts R S} {scale : ScaleGhosts S} → (R → Meaning S) → (Meaning S → Result (Unit {0}) TapeFault → Meaning S → Type 0) → View S → Result (Unit {0}) BenchFault → Bench R S telling scale → Type 0
   ChangeRight meaning does v (Ok u) after = (m : Meaning S) × does v.told (Ok u) m × Agrees meaning (record { told = m; rule = v.rule; solved = None }) after
   ChangeRight meaning does v (Err fault) after = (f : TapeFault) × (fault ≡ Tape f) × does v.told (Err f) v.told × Agrees meaning v after
 
-  abbrev pub ChangeLaw : {R : Type 0} {telling : RecordingGhosts R S} {scale : ScaleGhosts S} {ord : OrdGhosts S} {eq : EqGhosts S} {partial : PartialGhosts S} → (R → Meaning S) → (Meaning S → Result (Unit {0}) TapeFault → Meaning S → Type 0) → Bench R S telling scale ord eq partial → Result (Unit {0}) BenchFault → Bench R S telling scale ord eq partial → Type 0
+  abbrev pub ChangeLaw : {R : Type 0} {telling : RecordingGhosts R S} {scale : ScaleGhosts S} → (R → Meaning S) → (Meaning S → Result (Unit {0}) TapeFault → Meaning S → Type 0) → Bench R S telling scale → Result (Unit {0}) BenchFault → Bench R S telling scale → Type 0
   ChangeLaw meaning does before answer after = (v : View S) → Agrees meaning v before → ChangeRight meaning does v answer after
 
 -- a new bench has no rule and is unsolved

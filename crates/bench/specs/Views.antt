@@ -10,9 +10,6 @@ use Rattle.formula.specs.Trees.{Tree, numbered}
 use Rattle.solver.specs.Truth.{Holds}
 use Rattle.recording.specs.declared.recordings.Recording.{Ghosts as RecordingGhosts}
 use Rattle.scale.specs.declared.scales.Scale.{Ghosts as ScaleGhosts}
-use Rattle.std.specs.declared.cmp.Ord.{Ghosts as OrdGhosts}
-use Rattle.std.specs.declared.cmp.PartialEq.{Ghosts as EqGhosts}
-use Rattle.std.specs.declared.cmp.PartialOrd.{Ghosts as PartialGhosts}
 use Rattle.bench.specs.declared.benches.Bench.{Bench}
 
 pub record View (S : Type 0) : Type 0 where
@@ -32,7 +29,7 @@ limits_of p q r Q = q
 limits_of p q r R = r
 
 -- the bench stands for the view; that its list belongs to the view is true of every bench
-pub record Agrees {R S : Type 0} {telling : RecordingGhosts R S} {scale : ScaleGhosts S} {ord : OrdGhosts S} {eq : EqGhosts S} {partial : PartialGhosts S} (meaning : R → Meaning S) (v : View S) (b : Bench R S telling scale ord eq partial) : Type 0 where
+pub record Agrees {R S : Type 0} {telling : RecordingGhosts R S} {scale : ScaleGhosts S} (meaning : R → Meaning S) (v : View S) (b : Bench R S telling scale) : Type 0 where
   pub told : meaning b.recording ≡ v.told
   pub rule : parts_of b.formula ≡ parts_in_force v.rule
   pub solved : b.solved ≡ v.solved

@@ -45,13 +45,16 @@ impl<S: Scale> Domain<S> {
         self.become_list(other.boxes());
     }
 
-    // Becomes the list of the boxes given, for which there is room.
+    // Becomes the list of the boxes given, for which there is room. `extend_from_slice` was tried: it asks for room first, takes
+    // twice as long for one box, and a host in C would have to bring `rattle_realloc`.
     fn become_list(&mut self, boxes: &[Orthotope<S>])
         requires { length boxes.now ≤ 32 }
         ensures { boxes_of self.new ≡ sides_in boxes.now }
     {
         self.boxes.clear();
-        self.boxes.extend_from_slice(boxes).unwrap();
+        for each in boxes {
+            self.boxes.push_reserved(*each);
+        }
     }
 
     // Becomes the one box given.

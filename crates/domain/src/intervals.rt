@@ -6,19 +6,18 @@ ghost use Rattle.domain.specs.Sides.{later_cut, earlier_cut, empty_side, contain
 use crate::sides::Interval;
 use scale::{Cut, Scale, lies_between};
 
-// The later of two cuts. Here and in `contains` cuts are compared two at a time, by functions that promise it in terms of
-// places: with four of them in one function the check was tried, and found no proof.
+// The later of two cuts, here and below by `is_before`: a scale need not have the standard order, so cuts have none either.
 fn later<S: Scale>(a: Cut<S>, b: Cut<S>) -> Cut<S>
     ensures { result ≡ later_cut S.rank a b }
 {
-    b.max(a)
+    if a.is_before(b) { b } else { a }
 }
 
 // The earlier of two cuts.
 fn earlier<S: Scale>(a: Cut<S>, b: Cut<S>) -> Cut<S>
     ensures { result ≡ earlier_cut S.rank a b }
 {
-    a.min(b)
+    if b.is_before(a) { b } else { a }
 }
 
 impl<S: Scale> Interval<S> {
@@ -36,7 +35,7 @@ impl<S: Scale> Interval<S> {
     pub fn is_empty(self) -> bool
         ensures { result ≡ empty_side S.rank self }
     {
-        self.upper <= self.lower
+        !self.lower.is_before(self.upper)
     }
 
     // Whether the lower cut is no later and the upper cut no earlier than the other's.

@@ -1,12 +1,7 @@
 -- What is told of the channel that a layer adds, and of all else.
 use Rattle.std.proofs.Common.{◌≡◌, ℕ, ◌<◌, refl, ap, ◌∙◌, arith}
 use Rattle.std.proofs.lemmas.Bool.Decides.{nat_tests}
-use Rattle.layers.specs.declared.held.Layer.{Layer}
-use Rattle.recording.specs.declared.recordings.Recording.{Ghosts as RecordingGhosts}
-use Rattle.scale.specs.declared.scales.Scale.{Ghosts as ScaleGhosts}
-use Rattle.std.specs.declared.cmp.Ord.{Ghosts as OrdGhosts}
-use Rattle.std.specs.declared.cmp.PartialEq.{Ghosts as EqGhosts}
-use Rattle.std.specs.declared.cmp.PartialOrd.{Ghosts as PartialGhosts}
+use Rattle.layers.specs.declared.layers.Layer.{Layer}
 use Rattle.layers.specs.Layers.{Overlaid, layered, told_by}
 use Rattle.recording.specs.Meaning.{Meaning, Sound}
 
@@ -33,12 +28,11 @@ module _ {M : Type 0} (rest : M) (worked : ℕ → M) (m : Meaning M) (sound : S
       let no_channel = sound.no_channel i m.channels (omega arith) in
       grind (arith, nat_tests)
 
--- a layer has the next number, by its type
-pub told_next : {R W M : Type 0} {telling : RecordingGhosts R M} {scale : ScaleGhosts M} {ord : OrdGhosts M} {eq : EqGhosts M} {partial : PartialGhosts M} (rest : M) (worked : W → Meaning M → ℕ → M) (s : Layer R W M telling scale ord eq partial) (below : R) (working : W)
-    → s.below ≡ below → s.working ≡ working
-    → told_by rest telling.meaning worked s ≡ layered rest (worked working (telling.meaning below)) (telling.meaning below).channels (telling.meaning below)
-told_next {R} {W} {telling = telling} rest worked s below working b w =
-    let meaning = telling.meaning in
+-- a layer that has the next number
+pub told_next : {R W M : Type 0} (rest : M) (meaning : R → Meaning M) (worked : W → Meaning M → ℕ → M) (s : Layer R W) (below : R) (working : W)
+    → s.below ≡ below → s.working ≡ working → s.number ≡ (meaning below).channels
+    → told_by rest meaning worked s ≡ layered rest (worked working (meaning below)) (meaning below).channels (meaning below)
+told_next {R} {W} rest meaning worked s below working b w n =
     ap (λ (x : R). layered rest (worked s.working (meaning x)) s.number (meaning x)) b
     ∙ ap (λ (x : W). layered rest (worked x (meaning below)) s.number (meaning below)) w
-    ∙ ap (λ (x : ℕ). layered rest (worked working (meaning below)) x (meaning below)) (s.numbered ∙ ap (λ (x : R). (meaning x).channels) b)
+    ∙ ap (λ (x : ℕ). layered rest (worked working (meaning below)) x (meaning below)) n

@@ -1,11 +1,6 @@
 -- What a recording tells with a layer over it, which works out one channel more. Assumes nothing.
 use Rattle.std.specs.Prelude.{◌≡◌, ℕ, ◌+◌, ◌<◌, min, Bool, false, cond, ◌==◌, nat_lt}
-use Rattle.layers.specs.declared.held.Layer.{Layer}
-use Rattle.recording.specs.declared.recordings.Recording.{Ghosts as RecordingGhosts}
-use Rattle.scale.specs.declared.scales.Scale.{Ghosts as ScaleGhosts}
-use Rattle.std.specs.declared.cmp.Ord.{Ghosts as OrdGhosts}
-use Rattle.std.specs.declared.cmp.PartialEq.{Ghosts as EqGhosts}
-use Rattle.std.specs.declared.cmp.PartialOrd.{Ghosts as PartialGhosts}
+use Rattle.layers.specs.declared.layers.Layer.{Layer}
 use Rattle.recording.specs.Meaning.{Meaning}
 
 -- sixteen channels are the most, and a channel that is added has the next number
@@ -29,11 +24,11 @@ layered rest worked n m =
     }
 
 -- what a layer tells, from what its recording tells and what it works out of that
-abbrev pub told_by : {R W M : Type 0} {telling : RecordingGhosts R M} {scale : ScaleGhosts M} {ord : OrdGhosts M} {eq : EqGhosts M} {partial : PartialGhosts M} → M → (R → Meaning M) → (W → Meaning M → ℕ → M) → Layer R W M telling scale ord eq partial → Meaning M
+abbrev pub told_by : {R W M : Type 0} → M → (R → Meaning M) → (W → Meaning M → ℕ → M) → Layer R W → Meaning M
 told_by rest meaning worked s = layered rest (worked s.working (meaning s.below)) s.number (meaning s.below)
 
 -- the same layer over another recording
-pub record SameLayer {R W M : Type 0} {telling : RecordingGhosts R M} {scale : ScaleGhosts M} {ord : OrdGhosts M} {eq : EqGhosts M} {partial : PartialGhosts M} (s t : Layer R W M telling scale ord eq partial) : Type 0 where
+pub record SameLayer {R W : Type 0} (s t : Layer R W) : Type 0 where
   pub working : t.working ≡ s.working
   pub number : t.number ≡ s.number
 

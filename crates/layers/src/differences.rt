@@ -5,8 +5,7 @@ ghost use Rattle.scale.specs.Readings.{held, value_of};
 ghost use Rattle.layers.specs.Differences.{DifferenceOver, difference_of};
 ghost use Rattle.layers.specs.Layers.{told_by};
 
-use crate::held::Layer;
-use crate::layers::Working;
+use crate::layers::{Layer, Working};
 use recording::Recording;
 use scale::{Reading, Scale};
 
@@ -58,6 +57,7 @@ impl<R: Recording<Mark = Reading>> Layer<R, DifferenceOf> {
     pub fn new(below: R, channel: usize) -> Difference<R>
         ensures below { result.below ≡ below }
         ensures channel { result.working.channel ≡ channel }
+        ensures number { result.number ≡ (R.meaning below).channels }
         ensures differences { DifferenceOver channel (R.meaning below) (told_by (held (pos 0)) R.meaning (λ s. difference_of s.channel) result) }
     {
         Layer::over(below, DifferenceOf::at(channel))

@@ -5,7 +5,6 @@ ghost use Rattle.recording.specs.Meaning.{Meaning};
 ghost use Rattle.layers.specs.Layers.{SameLayer, shows_added, takes, told_by};
 ghost use Rattle.std.proofs.Common.{rules};
 
-use crate::held::Layer;
 use recording::{MOST_CHANNELS, Recording, Tape, TapeFault};
 use scale::Scale;
 
@@ -17,12 +16,29 @@ pub trait Working<S: Scale> {
         ensures { result ≡ worked self.now (R.meaning below.now) point };
 }
 
+#[derive(Drop)]
+pub struct Layer<R, W> {
+    pub(crate) below: R,
+    pub(crate) working: W,
+    // The number of the added channel is kept, so that a question at another one goes below at once.
+    pub(crate) number: usize,
+}
+
+// Whether a recording of so many channels takes one more, of this number.
+fn takes(channels: usize, number: usize) -> bool
+    ensures { result ≡ takes channels number }
+{
+    channels < MOST_CHANNELS && number == channels
+}
+
 impl<R: Recording, W> Layer<R, W> {
     // The layer over this recording, whose channel has the next number. As the makers of peaks and differences do, it tells
-    // which recording it holds: a value, of which no type can tell it.
+    // which recording it holds, a value, of which no type can tell it; and the number: a ghost field that tells it would ask of
+    // all who name a layer that it is over a recording.
     pub fn over(below: R, working: W) -> Layer<R, W>
         ensures below { result.below ≡ below }
         ensures working { result.working ≡ working }
+        ensures number { result.number ≡ (R.meaning below).channels }
     {
         let number = below.channels();
         Layer {
@@ -38,21 +54,14 @@ impl<R: Recording, W> Layer<R, W> {
         &self.below
     }
 
-    // Whether the layer adds its channel. It does unless the most are there already.
-    fn adds(&self) -> bool
-        ensures { result ≡ takes (R.meaning self.now.below).channels self.now.number }
-    {
-        self.number < MOST_CHANNELS
-    }
-
     fn is_added(&self, channel: usize) -> bool
         ensures { result ≡ shows_added self.now.number (R.meaning self.now.below) channel }
     {
-        channel == self.number && self.adds()
+        channel == self.number && takes(self.below.channels(), self.number)
     }
 }
 
-impl<R: Recording, W: Drop> Layer<R, W> {
+impl<R, W: Drop> Layer<R, W> {
     // The recording that the layer was over.
     pub fn into_below(self) -> R
         ensures { result ≡ self.below }
@@ -82,10 +91,11 @@ impl<R: Recording, W: Working<R::Mark>> Recording for Layer<R, W> {
     }
 
     fn channels(&self) -> usize {
-        if self.adds() {
-            self.number + 1
+        let channels = self.below.channels();
+        if takes(channels, self.number) {
+            channels + 1
         } else {
-            self.number
+            channels
         }
     }
 

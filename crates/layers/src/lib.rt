@@ -2,11 +2,9 @@
 #![tactic(auto)]
 
 mod differences;
-mod held;
 mod layers;
 mod peaks;
 
 pub use differences::{Difference, DifferenceOf};
-pub use held::Layer;
-pub use layers::Working;
+pub use layers::{Layer, Working};
 pub use peaks::{Peak, PeakOf};

@@ -3,8 +3,7 @@ ghost use Rattle.std.specs.Prelude.{◌≡◌};
 ghost use Rattle.layers.specs.Layers.{told_by};
 ghost use Rattle.layers.specs.Peaks.{PeakOver, later, peak_of};
 
-use crate::held::Layer;
-use crate::layers::Working;
+use crate::layers::{Layer, Working};
 use recording::Recording;
 use scale::Scale;
 
@@ -16,11 +15,11 @@ pub struct PeakOf {
 
 pub type Peak<R> = Layer<R, PeakOf>;
 
-// The later in order of two marks. Written into the loop, `max` was tried, and the check found no proof.
+// The later in order of two marks, by `is_before`: a scale need not have the standard order.
 fn later<S: Scale>(a: S, b: S) -> S
     ensures { result ≡ later S.rank a b }
 {
-    b.max(a)
+    if a.is_before(b) { b } else { a }
 }
 
 impl<S: Scale> Working<S> for PeakOf {
@@ -48,6 +47,7 @@ impl<R: Recording> Layer<R, PeakOf> {
     pub fn new(below: R, channel: usize) -> Peak<R>
         ensures below { result.below ≡ below }
         ensures channel { result.working.channel ≡ channel }
+        ensures number { result.number ≡ (R.meaning below).channels }
         ensures peak { PeakOver R.Mark.rank R.Mark.resting channel (R.meaning below) (told_by R.Mark.resting R.meaning (λ s. peak_of R.Mark.rank s.channel) result) }
     {
         Layer::over(below, PeakOf::at(channel))

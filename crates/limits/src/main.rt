@@ -1,32 +1,42 @@
 // `limits`: from rule.txt and points.rec in the folder that it is run in to the listing at point 0, or the refusal.
 #![tactic(auto)]
 
+ghost use Rattle.std.specs.Prelude.{◌≤◌, length};
+
 use host::{stop_limits, stop_limits_refusal};
 use std::fs::File;
 use std::io;
 use std::io::{Read, Write};
 
-// One byte more than a rule can have, and one record more than a recording.
-const RULE_BYTES: u64 = 513;
-
-const RECORDING_BYTES: u64 = 40_980;
-
-// The front of a file, so many bytes at most.
-fn read_front(rt: &HostRuntime, path: &str, most: u64) -> io::Result<Vec<u8>> {
-    let mut bytes = Vec::new(rt.alloc());
-    File::open(rt, path)?.take(most).read_to_end(&mut bytes)?;
-    Ok(bytes)
+// The front of a file, as much as the buffer takes; a file that cannot be read counts as empty. Vectors were tried. One that grows
+// can want for memory, and a good file then counts as empty; one of fixed capacity is moved about, and takes more stack.
+fn read_front(rt: &HostRuntime, path: &str, buffer: &mut [u8]) -> usize
+    ensures { result ≤ length buffer.old }
+{
+    let Ok(mut file) = File::open(rt, path) else {
+        return 0;
+    };
+    let mut filled = 0;
+    for _turn in 0..buffer.len() {
+        match file.read(&mut buffer[filled..]) {
+            Ok(0) => break,
+            Ok(count) => filled += count,
+            Err(_) => return 0,
+        }
+    }
+    filled
 }
 
 fn main(rt: HostRuntime) -> io::Result<()> {
-    // A file that cannot be read counts as empty.
-    let text = read_front(&rt, "rule.txt", RULE_BYTES).unwrap_or(Vec::new(rt.alloc()));
-    let records = read_front(&rt, "points.rec", RECORDING_BYTES).unwrap_or(Vec::new(rt.alloc()));
+    let mut text = [0u8; 513];
+    let mut records = [0u8; 40_980];
     let mut output = [0u8; 4096];
+    let text_len = read_front(&rt, "rule.txt", &mut text);
+    let records_len = read_front(&rt, "points.rec", &mut records);
     let answer = stop_limits(
         rt.alloc(),
-        text.as_slice(),
-        records.as_slice(),
+        &text[0..text_len],
+        &records[0..records_len],
         0,
         &mut output,
     );
@@ -37,5 +47,5 @@ fn main(rt: HostRuntime) -> io::Result<()> {
         answer
     };
     let mut out = rt.stdout();
-    out.write_all(&output[..written as usize])
+    out.write_all(&output[0..written as usize])
 }

@@ -3,8 +3,7 @@ use Rattle.std.proofs.Common.{◌≡◌, ℕ, ◌+◌, ◌*◌, ◌≤◌, Bool,
 use Rattle.std.specs.List.{AllByRecursion}
 use Rattle.std.proofs.lemmas.Fmt.{length-decimal-le}
 use Rattle.scale.specs.declared.cuts.Cut.{Cut}
-use Rattle.scale.specs.declared.cuts.Cut.TheVariants.{LowerEnd, At, UpperEnd}
-use Rattle.scale.specs.declared.cuts.Side.TheVariants.{Below, Above}
+use Rattle.scale.specs.declared.cuts.Cut.TheVariants.{LowerEnd, Below, Above, UpperEnd}
 use Rattle.scale.specs.Marks.{RunText}
 use Rattle.domain.specs.declared.sides.Interval.{Interval}
 use Rattle.domain.specs.Added.{Boxes, Sides}
@@ -72,8 +71,8 @@ module _ {S : Type 0} (text : S → List ℕ) where
 
   bounded_is : (below above t a : List ℕ) (f : Bool) (name : List ℕ) (c : Cut S) → bounded text below above (behind t a, f) name c ≡ grown t a f (bounds text below above name c)
   bounded_is below above t a f name LowerEnd = grown_none t a f
-  bounded_is below above t a f name (At m Below) = compared_is t a f name below m
-  bounded_is below above t a f name (At m Above) = compared_is t a f name above m
+  bounded_is below above t a f name (Below m) = compared_is t a f name below m
+  bounded_is below above t a f name (Above m) = compared_is t a f name above m
   bounded_is below above t a f name UpperEnd = grown_none t a f
 
   sided_is : (t a : List ℕ) (f : Bool) (name : List ℕ) (i : Interval S) → sided text (behind t a, f) name i ≡ grown t a f (lowers text name i.lower ++ uppers text name i.upper)
@@ -131,8 +130,8 @@ module _ {S : Type 0} (text : S → List ℕ) where
 
     bounds_short : (below above name : List ℕ) (c : Cut S) → length below ≤ 2 → length above ≤ 2 → length name ≤ 1 → length (further (bounds text below above name c)) ≤ 20
     bounds_short below above name LowerEnd k l h = omega arith
-    bounds_short below above name (At m Below) k l h = one_short name below m h k
-    bounds_short below above name (At m Above) k l h = one_short name above m h l
+    bounds_short below above name (Below m) k l h = one_short name below m h k
+    bounds_short below above name (Above m) k l h = one_short name above m h l
     bounds_short below above name UpperEnd k l h = omega arith
 
     box_short : (ns : List (List ℕ)) (b : Sides S) → AllByRecursion (λ n. length n ≤ 1) ns → length (further (comparisons text ns b)) ≤ 40 * length ns

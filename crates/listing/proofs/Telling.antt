@@ -5,8 +5,7 @@ use Rattle.std.proofs.lemmas.Fmt.{decimal_by_steps}
 use Rattle.std.proofs.ByRecursion.{All-append, All-push, All-weaker}
 use Rattle.std.proofs.lemmas.Bool.Decides.{nat_tests}
 use Rattle.scale.specs.declared.cuts.Cut.{Cut}
-use Rattle.scale.specs.declared.cuts.Cut.TheVariants.{LowerEnd, At, UpperEnd}
-use Rattle.scale.specs.declared.cuts.Side.TheVariants.{Below, Above}
+use Rattle.scale.specs.declared.cuts.Cut.TheVariants.{LowerEnd, Below, Above, UpperEnd}
 use Rattle.scale.specs.Cuts.{place}
 use Rattle.scale.specs.Marks.{Apart, RunByte, RunText}
 use Rattle.domain.specs.declared.sides.Interval.{Interval}
@@ -136,8 +135,8 @@ module _ {S : Type 0} (rank : S → ℕ) (text : S → List ℕ) (fit : (m : S) 
 
   bound_pieces : (below above : List ℕ) (c : ℕ) (k : Cut S) → AllByRecursion Plain below → AllByRecursion Plain above → 98 ≤ c → AllByRecursion Piece (bounds text below above (single c) k)
   bound_pieces below above c LowerEnd p q h = tt
-  bound_pieces below above c (At m Below) p q h = (piece c below m h p, tt)
-  bound_pieces below above c (At m Above) p q h = (piece c above m h q, tt)
+  bound_pieces below above c (Below m) p q h = (piece c below m h p, tt)
+  bound_pieces below above c (Above m) p q h = (piece c above m h q, tt)
   bound_pieces below above c UpperEnd p q h = tt
 
   all_pieces : (cs : List ℕ) (b : Sides S) → AllByRecursion (λ c. 98 ≤ c) cs → AllByRecursion Piece (comparisons text (map single cs) b)
@@ -151,8 +150,8 @@ module _ {S : Type 0} (rank : S → ℕ) (text : S → List ℕ) (fit : (m : S) 
   -- the comparisons of other names stop those of this one
   bounds_other : (below above : List ℕ) (d c : ℕ) (k : Cut S) (xs : List (List ℕ)) → (c ≡ d → ⊥) → Stops (Starts d) xs → Stops (Starts d) (bounds text below above (single c) k ++ xs)
   bounds_other below above d c LowerEnd xs ne s = s
-  bounds_other below above d c (At m Below) xs ne s = λ h. ne (head_of h)
-  bounds_other below above d c (At m Above) xs ne s = λ h. ne (head_of h)
+  bounds_other below above d c (Below m) xs ne s = λ h. ne (head_of h)
+  bounds_other below above d c (Above m) xs ne s = λ h. ne (head_of h)
   bounds_other below above d c UpperEnd xs ne s = s
 
   others_stop : (d : ℕ) (cs : List ℕ) (b : Sides S) → AllByRecursion (λ c. c ≡ d → ⊥) cs → Stops (Starts d) (comparisons text (map single cs) b)
@@ -165,20 +164,20 @@ module _ {S : Type 0} (rank : S → ℕ) (text : S → List ℕ) (fit : (m : S) 
   -- an upper comparison stops the lower ones
   upper_stops : (c : ℕ) (u : Cut S) (xs : List (List ℕ)) → Stops (Starts c) xs → Stops (LowerOf c) (uppers text (single c) u ++ xs)
   upper_stops c LowerEnd xs s = lower_stops c xs s
-  upper_stops c (At m Below) xs s = λ h. omega (arith, head_of (rest_of h))
-  upper_stops c (At m Above) xs s = λ h. omega (arith, head_of (rest_of h))
+  upper_stops c (Below m) xs s = λ h. omega (arith, head_of (rest_of h))
+  upper_stops c (Above m) xs s = λ h. omega (arith, head_of (rest_of h))
   upper_stops c UpperEnd xs s = lower_stops c xs s
 
   lowers_start : (c : ℕ) (l : Cut S) → AllByRecursion (LowerOf c) (lowers text (single c) l)
   lowers_start c LowerEnd = tt
-  lowers_start c (At m Below) = (refl, tt)
-  lowers_start c (At m Above) = (refl, tt)
+  lowers_start c (Below m) = (refl, tt)
+  lowers_start c (Above m) = (refl, tt)
   lowers_start c UpperEnd = tt
 
   uppers_start : (c : ℕ) (u : Cut S) → AllByRecursion (Starts c) (uppers text (single c) u)
   uppers_start c LowerEnd = tt
-  uppers_start c (At m Below) = (refl, tt)
-  uppers_start c (At m Above) = (refl, tt)
+  uppers_start c (Below m) = (refl, tt)
+  uppers_start c (Above m) = (refl, tt)
   uppers_start c UpperEnd = tt
 
   -- no text goes on with the second byte of `>=` and `<=`
@@ -188,38 +187,38 @@ module _ {S : Type 0} (rank : S → ℕ) (text : S → List ℕ) (fit : (m : S) 
   lower_same : (c : ℕ) (k l : Cut S) → (k ≡ UpperEnd → ⊥) → (l ≡ UpperEnd → ⊥) → lowers text (single c) k ≡ lowers text (single c) l → k ≡ l
   lower_same c UpperEnd l p q e = absurd (p refl)
   lower_same c LowerEnd LowerEnd p q e = refl
-  lower_same c LowerEnd (At n Below) p q e = absurd (never e)
-  lower_same c LowerEnd (At n Above) p q e = absurd (never e)
+  lower_same c LowerEnd (Below n) p q e = absurd (never e)
+  lower_same c LowerEnd (Above n) p q e = absurd (never e)
   lower_same c LowerEnd UpperEnd p q e = absurd (q refl)
-  lower_same c (At m Below) LowerEnd p q e = absurd (never (sym e))
-  lower_same c (At m Below) (At n Below) p q e = ap (λ k. At k Below) (apart m n (ap (drop 3) (head_of e)))
-  lower_same c (At m Below) (At n Above) p q e = absurd (no_sign m n (ap (drop 2) (head_of e)))
-  lower_same c (At m Below) UpperEnd p q e = absurd (q refl)
-  lower_same c (At m Above) LowerEnd p q e = absurd (never (sym e))
-  lower_same c (At m Above) (At n Below) p q e = absurd (no_sign n m (sym (ap (drop 2) (head_of e))))
-  lower_same c (At m Above) (At n Above) p q e = ap (λ k. At k Above) (apart m n (ap (drop 2) (head_of e)))
-  lower_same c (At m Above) UpperEnd p q e = absurd (q refl)
+  lower_same c (Below m) LowerEnd p q e = absurd (never (sym e))
+  lower_same c (Below m) (Below n) p q e = ap (λ k. Below k) (apart m n (ap (drop 3) (head_of e)))
+  lower_same c (Below m) (Above n) p q e = absurd (no_sign m n (ap (drop 2) (head_of e)))
+  lower_same c (Below m) UpperEnd p q e = absurd (q refl)
+  lower_same c (Above m) LowerEnd p q e = absurd (never (sym e))
+  lower_same c (Above m) (Below n) p q e = absurd (no_sign n m (sym (ap (drop 2) (head_of e))))
+  lower_same c (Above m) (Above n) p q e = ap (λ k. Above k) (apart m n (ap (drop 2) (head_of e)))
+  lower_same c (Above m) UpperEnd p q e = absurd (q refl)
 
   upper_same : (c : ℕ) (k l : Cut S) → (k ≡ LowerEnd → ⊥) → (l ≡ LowerEnd → ⊥) → uppers text (single c) k ≡ uppers text (single c) l → k ≡ l
   upper_same c LowerEnd l p q e = absurd (p refl)
   upper_same c UpperEnd UpperEnd p q e = refl
-  upper_same c UpperEnd (At n Below) p q e = absurd (never e)
-  upper_same c UpperEnd (At n Above) p q e = absurd (never e)
+  upper_same c UpperEnd (Below n) p q e = absurd (never e)
+  upper_same c UpperEnd (Above n) p q e = absurd (never e)
   upper_same c UpperEnd LowerEnd p q e = absurd (q refl)
-  upper_same c (At m Below) UpperEnd p q e = absurd (never (sym e))
-  upper_same c (At m Below) (At n Below) p q e = ap (λ k. At k Below) (apart m n (ap (drop 2) (head_of e)))
-  upper_same c (At m Below) (At n Above) p q e = absurd (no_sign n m (sym (ap (drop 2) (head_of e))))
-  upper_same c (At m Below) LowerEnd p q e = absurd (q refl)
-  upper_same c (At m Above) UpperEnd p q e = absurd (never (sym e))
-  upper_same c (At m Above) (At n Below) p q e = absurd (no_sign m n (ap (drop 2) (head_of e)))
-  upper_same c (At m Above) (At n Above) p q e = ap (λ k. At k Above) (apart m n (ap (drop 3) (head_of e)))
-  upper_same c (At m Above) LowerEnd p q e = absurd (q refl)
+  upper_same c (Below m) UpperEnd p q e = absurd (never (sym e))
+  upper_same c (Below m) (Below n) p q e = ap (λ k. Below k) (apart m n (ap (drop 2) (head_of e)))
+  upper_same c (Below m) (Above n) p q e = absurd (no_sign n m (sym (ap (drop 2) (head_of e))))
+  upper_same c (Below m) LowerEnd p q e = absurd (q refl)
+  upper_same c (Above m) UpperEnd p q e = absurd (never (sym e))
+  upper_same c (Above m) (Below n) p q e = absurd (no_sign m n (ap (drop 2) (head_of e)))
+  upper_same c (Above m) (Above n) p q e = ap (λ k. Above k) (apart m n (ap (drop 3) (head_of e)))
+  upper_same c (Above m) LowerEnd p q e = absurd (q refl)
 
   -- a side that is not empty begins before the upper end, and ends behind the lower one
   place_most : (c : Cut S) → place rank c ≤ 2 ^ 33 + 1
   place_most LowerEnd = omega arith
-  place_most (At m Below) = omega (arith, fit m)
-  place_most (At m Above) = omega (arith, fit m)
+  place_most (Below m) = omega (arith, fit m)
+  place_most (Above m) = omega (arith, fit m)
   place_most UpperEnd = omega arith
 
   begins : (i : Interval S) → empty_side rank i ≡ false → i.lower ≡ UpperEnd → ⊥

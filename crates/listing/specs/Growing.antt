@@ -1,8 +1,7 @@
 -- How a listing grows while it is made: each step is put behind what stands. Assumes nothing.
 use Rattle.std.specs.Prelude.{ℕ, true, false, cond, List, [], ◌∷◌, codes, decimal}
 use Rattle.scale.specs.declared.cuts.Cut.{Cut}
-use Rattle.scale.specs.declared.cuts.Cut.TheVariants.{LowerEnd, At, UpperEnd}
-use Rattle.scale.specs.declared.cuts.Side.TheVariants.{Below, Above}
+use Rattle.scale.specs.declared.cuts.Cut.TheVariants.{LowerEnd, Below, Above, UpperEnd}
 use Rattle.domain.specs.declared.sides.Interval.{Interval}
 use Rattle.domain.specs.Added.{Boxes, Sides}
 use Rattle.listing.specs.Held.{State, behind}
@@ -26,8 +25,8 @@ module _ {S : Type 0} (text : S → List ℕ) where
 
   -- a comparison with a cut's mark, by one sign where the cut is below it and another where it is above; an end adds nothing
   abbrev pub bounded : List ℕ → List ℕ → State → List ℕ → Cut S → State
-  bounded below above s name (At m Below) = compared s name below m
-  bounded below above s name (At m Above) = compared s name above m
+  bounded below above s name (Below m) = compared s name below m
+  bounded below above s name (Above m) = compared s name above m
   bounded below above s name LowerEnd = s
   bounded below above s name UpperEnd = s
 

@@ -1,8 +1,7 @@
 -- The listing of a list of boxes: `boxes N`, then a line for each box. Assumes nothing.
 use Rattle.std.specs.Prelude.{ℕ, List, [], ◌∷◌, ◌++◌, length, codes, decimal}
 use Rattle.scale.specs.declared.cuts.Cut.{Cut}
-use Rattle.scale.specs.declared.cuts.Cut.TheVariants.{LowerEnd, At, UpperEnd}
-use Rattle.scale.specs.declared.cuts.Side.TheVariants.{Below, Above}
+use Rattle.scale.specs.declared.cuts.Cut.TheVariants.{LowerEnd, Below, Above, UpperEnd}
 use Rattle.domain.specs.Added.{Boxes, Sides}
 
 -- the names of the limits, in the order of a box's sides
@@ -26,8 +25,8 @@ module _ {S : Type 0} (text : S → List ℕ) where
   -- what a cut says of a limit, by one sign where it is below its mark and another where it is above; an end of the scale
   -- says nothing
   abbrev pub bounds : List ℕ → List ℕ → List ℕ → Cut S → List (List ℕ)
-  bounds below above name (At m Below) = comparison name below m ∷ []
-  bounds below above name (At m Above) = comparison name above m ∷ []
+  bounds below above name (Below m) = comparison name below m ∷ []
+  bounds below above name (Above m) = comparison name above m ∷ []
   bounds below above name LowerEnd = []
   bounds below above name UpperEnd = []
 

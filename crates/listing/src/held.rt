@@ -1,4 +1,6 @@
 // How a listing is held.
+ghost use Rattle.std.specs.Prelude.{◌≤◌, length};
+
 use arrayvec::ArrayVec;
 
 // The longest listing has fewer: a heading, and 32 lines of at most six comparisons of at most 19 bytes each.
@@ -11,4 +13,6 @@ pub struct Listing {
     // Whether a comparison stands on the last line already. Each function that adds other text
     // tells that it stays as it was: a type cannot tell it.
     pub(crate) begun: bool,
+    // The vector says so only to those who open it.
+    ghost within: { length text.items ≤ 4096 },
 }

@@ -8,7 +8,7 @@ ghost use Rattle.listing.specs.Listings.{listing_text, names};
 
 use crate::held::Listing;
 use domain::{Domain, Interval, Orthotope};
-use scale::{Cut, Scale, Side, Word};
+use scale::{Cut, Scale, Word};
 
 impl Listing {
     // The heading of this many boxes.
@@ -47,12 +47,10 @@ impl Listing {
     fn push_bound<S: Scale>(&mut self, name: &[u8], cut: Cut<S>, below: &[u8], above: &[u8])
         ensures { state_of self.new ≡ bounded S.text below.now above.now (state_of self.old) name.now cut }
     {
-        if let Cut::At(mark, side) = cut {
-            let sign = match side {
-                Side::Below => below,
-                Side::Above => above,
-            };
-            self.push_comparison(name, sign, mark);
+        match cut {
+            Cut::Below(mark) => self.push_comparison(name, below, mark),
+            Cut::Above(mark) => self.push_comparison(name, above, mark),
+            Cut::LowerEnd | Cut::UpperEnd => {}
         }
     }
 

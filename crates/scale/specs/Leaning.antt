@@ -4,8 +4,7 @@ use Rattle.std.proofs.Common.{sym, subst, arith}
 use Rattle.std.specs.Option.{option_map}
 use Rattle.std.proofs.lemmas.Int.{ints, by_lt_z}
 use Rattle.scale.specs.declared.cuts.Cut.{Cut}
-use Rattle.scale.specs.declared.cuts.Cut.TheVariants.{LowerEnd, At, UpperEnd}
-use Rattle.scale.specs.declared.cuts.Side.TheVariants.{Below, Above}
+use Rattle.scale.specs.declared.cuts.Cut.TheVariants.{LowerEnd, Below, Above, UpperEnd}
 use Rattle.scale.specs.declared.numbered.Row.{Row}
 use Rattle.scale.specs.Cuts.{place, Between}
 use Rattle.scale.specs.Numbered.{edge, choice, picked_number, Leaned, Leans}
@@ -22,38 +21,38 @@ pub record InRow {S : Type 0} (rank : S → ℕ) (number : S → ℤ) (row : Row
 module _ {S : Type 0} {rank : S → ℕ} {number : S → ℤ} {row : Row} {mark : ℤ → S} {rest : S} (r : InRow rank number row mark rest) where
   from_lower : (l : Cut S) (m : S) → place rank l ≤ 2 * rank m + 1 → edge number row l ≤ℤ number m
   from_lower LowerEnd m h = omega (arith, ints, r.link m)
-  from_lower (At k Below) m h = omega (arith, ints, r.link m, r.link k)
-  from_lower (At k Above) m h = omega (arith, ints, r.link m, r.link k)
+  from_lower (Below k) m h = omega (arith, ints, r.link m, r.link k)
+  from_lower (Above k) m h = omega (arith, ints, r.link m, r.link k)
   from_lower UpperEnd m h = omega (arith, ints, r.link m, r.short, r.inside m)
 
   to_lower : (l : Cut S) (m : S) → edge number row l ≤ℤ number m → place rank l ≤ 2 * rank m + 1
   to_lower LowerEnd m h = omega (arith, ints)
-  to_lower (At k Below) m h = omega (arith, ints, r.link m, r.link k)
-  to_lower (At k Above) m h = omega (arith, ints, r.link m, r.link k)
+  to_lower (Below k) m h = omega (arith, ints, r.link m, r.link k)
+  to_lower (Above k) m h = omega (arith, ints, r.link m, r.link k)
   to_lower UpperEnd m h = omega (arith, ints, r.link m, r.inside m)
 
   from_upper : (u : Cut S) (m : S) → 2 * rank m + 2 ≤ place rank u → number m <ℤ edge number row u
   from_upper LowerEnd m h = omega (arith, ints)
-  from_upper (At k Below) m h = omega (arith, ints, r.link m, r.link k)
-  from_upper (At k Above) m h = omega (arith, ints, r.link m, r.link k)
+  from_upper (Below k) m h = omega (arith, ints, r.link m, r.link k)
+  from_upper (Above k) m h = omega (arith, ints, r.link m, r.link k)
   from_upper UpperEnd m h = r.inside m
 
   to_upper : (u : Cut S) (m : S) → number m <ℤ edge number row u → 2 * rank m + 2 ≤ place rank u
   to_upper LowerEnd m h = omega (arith, ints, r.link m)
-  to_upper (At k Below) m h = omega (arith, ints, r.link m, r.link k)
-  to_upper (At k Above) m h = omega (arith, ints, r.link m, r.link k)
+  to_upper (Below k) m h = omega (arith, ints, r.link m, r.link k)
+  to_upper (Above k) m h = omega (arith, ints, r.link m, r.link k)
   to_upper UpperEnd m h = omega (arith, ints, r.link m, r.inside m, r.short)
 
   edge_low : (l : Cut S) → (row.least ≤ℤ row.past) → row.least ≤ℤ edge number row l
   edge_low LowerEnd h = omega (arith, ints)
-  edge_low (At k Below) h = omega (arith, ints, r.link k)
-  edge_low (At k Above) h = omega (arith, ints, r.link k)
+  edge_low (Below k) h = omega (arith, ints, r.link k)
+  edge_low (Above k) h = omega (arith, ints, r.link k)
   edge_low UpperEnd h = h
 
   edge_high : (u : Cut S) → (row.least ≤ℤ row.past) → edge number row u ≤ℤ row.past
   edge_high LowerEnd h = h
-  edge_high (At k Below) h = omega (arith, ints, r.inside k)
-  edge_high (At k Above) h = omega (arith, ints, r.inside k)
+  edge_high (Below k) h = omega (arith, ints, r.inside k)
+  edge_high (Above k) h = omega (arith, ints, r.inside k)
   edge_high UpperEnd h = omega (arith, ints)
 
   wide : row.least ≤ℤ row.past
@@ -93,28 +92,28 @@ module _ {S : Type 0} {rank : S → ℕ} {number : S → ℤ} {row : Row} {mark 
         resting = λ _ _. refl;
       })
 
-  no_below : (m : S) → At m Below ≢ LowerEnd
+  no_below : (m : S) → Below m ≢ LowerEnd
   no_below m e = let z : ◌≡◌ {A = ℕ} 0 1 = cc in omega arith
 
-  no_above : (m : S) → At m Above ≢ LowerEnd
+  no_above : (m : S) → Above m ≢ LowerEnd
   no_above m e = let z : ◌≡◌ {A = ℕ} 0 1 = cc in omega arith
 
   no_upper : ◌≡◌ {A = Cut S} UpperEnd LowerEnd → ⊥
   no_upper e = let z : ◌≡◌ {A = ℕ} 0 1 = cc in omega arith
 
-  below_no_end : (m : S) → At m Below ≢ UpperEnd
+  below_no_end : (m : S) → Below m ≢ UpperEnd
   below_no_end m e = let z : ◌≡◌ {A = ℕ} 0 1 = cc in omega arith
 
-  above_no_end : (m : S) → At m Above ≢ UpperEnd
+  above_no_end : (m : S) → Above m ≢ UpperEnd
   above_no_end m e = let z : ◌≡◌ {A = ℕ} 0 1 = cc in omega arith
 
   leaned : (l u : Cut S) → edge number row l <ℤ edge number row u → Leaned rank rest l u (mark (choice number row l u))
   leaned LowerEnd LowerEnd h = absurd (omega (arith, ints))
-  leaned LowerEnd (At m Below) h = leaned_greatest (At m Below) (number m -ℤ pos 1) (below_no_end m) (omega (arith, ints)) h
-  leaned LowerEnd (At m Above) h = leaned_greatest (At m Above) (number m) (above_no_end m) refl h
+  leaned LowerEnd (Below m) h = leaned_greatest (Below m) (number m -ℤ pos 1) (below_no_end m) (omega (arith, ints)) h
+  leaned LowerEnd (Above m) h = leaned_greatest (Above m) (number m) (above_no_end m) refl h
   leaned LowerEnd UpperEnd h = leaned_rest
-  leaned (At m Below) u h = leaned_least (At m Below) u (no_below m) h
-  leaned (At m Above) u h = leaned_least (At m Above) u (no_above m) h
+  leaned (Below m) u h = leaned_least (Below m) u (no_below m) h
+  leaned (Above m) u h = leaned_least (Above m) u (no_above m) h
   leaned UpperEnd u h = leaned_least UpperEnd u no_upper h
 
   none_between : (l u : Cut S) → edge number row u ≤ℤ edge number row l → (m : S) → Between rank l u m → ⊥

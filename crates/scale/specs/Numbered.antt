@@ -1,8 +1,7 @@
 -- Marks that are whole numbers in a row, and the mark that is picked among them. Assumes nothing.
 use Rattle.std.specs.Prelude.{◌≡◌, ℕ, ◌≤◌, cond, ℤ, pos, ◌+ℤ◌, ◌-ℤ◌, Some, None, Option, ◌≢◌, int_lt}
 use Rattle.scale.specs.declared.cuts.Cut.{Cut}
-use Rattle.scale.specs.declared.cuts.Cut.TheVariants.{LowerEnd, At, UpperEnd}
-use Rattle.scale.specs.declared.cuts.Side.TheVariants.{Below, Above}
+use Rattle.scale.specs.declared.cuts.Cut.TheVariants.{LowerEnd, Below, Above, UpperEnd}
 use Rattle.scale.specs.declared.numbered.Row.{Row}
 use Rattle.scale.specs.Cuts.{Between}
 
@@ -10,22 +9,22 @@ module _ {S : Type 0} (number : S → ℤ) (row : Row) where
   -- the number of the first mark behind a cut
   abbrev pub edge : Cut S → ℤ
   edge LowerEnd = row.least
-  edge (At m Below) = number m
-  edge (At m Above) = number m +ℤ pos 1
+  edge (Below m) = number m
+  edge (Above m) = number m +ℤ pos 1
   edge UpperEnd = row.past
 
   -- what is picked where the lower cut is an end: the last number, or rest between the ends
   abbrev pub last : Cut S → ℤ
   last LowerEnd = row.least -ℤ pos 1
-  last (At m Below) = number m -ℤ pos 1
-  last (At m Above) = number m
+  last (Below m) = number m -ℤ pos 1
+  last (Above m) = number m
   last UpperEnd = row.rest
 
   -- the first number behind a lower cut that is no end
   abbrev pub choice : Cut S → Cut S → ℤ
   choice LowerEnd u = last u
-  choice (At m Below) u = edge (At m Below)
-  choice (At m Above) u = edge (At m Above)
+  choice (Below m) u = edge (Below m)
+  choice (Above m) u = edge (Above m)
   choice UpperEnd u = edge UpperEnd
 
   abbrev pub picked_number : Cut S → Cut S → Option ℤ

@@ -4,18 +4,13 @@ ghost use Rattle.scale.specs.Cuts.{place, Between};
 
 use crate::scales::Scale;
 
-// The two sides of a mark.
-#[derive(Clone, Copy, PartialEq, Eq, PartialOrd, Ord, Debug)]
-pub enum Side {
-    Below,
-    Above,
-}
-
-// Cuts are ordered as they are declared: by mark, and at one mark by side.
-#[derive(Clone, Copy, PartialEq, Eq, PartialOrd, Ord)]
+// Cuts are compared by hand, through `is_before` of the scale. The derived order was tried, with a cut as an end or a mark with a
+// side: it asks every kind of mark for `Ord`, and each cut took half as much memory again.
+#[derive(Clone, Copy, PartialEq, Eq)]
 pub enum Cut<S> {
     LowerEnd,
-    At(S, Side),
+    Below(S),
+    Above(S),
     UpperEnd,
 }
 
@@ -23,7 +18,16 @@ impl<S: Scale> Cut<S> {
     pub fn is_before(self, other: Cut<S>) -> bool
         ensures { result ≡ nat_lt (place S.rank self) (place S.rank other) }
     {
-        self < other
+        match (self, other) {
+            (_, Cut::LowerEnd) => false,
+            (Cut::LowerEnd, _) => true,
+            (Cut::UpperEnd, _) => false,
+            (_, Cut::UpperEnd) => true,
+            (Cut::Below(m), Cut::Below(n)) => m.is_before(n),
+            (Cut::Above(m), Cut::Above(n)) => m.is_before(n),
+            (Cut::Above(m), Cut::Below(n)) => m.is_before(n),
+            (Cut::Below(m), Cut::Above(n)) => !n.is_before(m),
+        }
     }
 }
 
@@ -31,5 +35,5 @@ impl<S: Scale> Cut<S> {
 pub fn lies_between<S: Scale>(mark: S, lower: Cut<S>, upper: Cut<S>) -> bool
     ensures { Decides result (Between S.rank lower upper mark) }
 {
-    lower <= Cut::At(mark, Side::Below) && Cut::At(mark, Side::Above) <= upper
+    !Cut::Below(mark).is_before(lower) && !upper.is_before(Cut::Above(mark))
 }

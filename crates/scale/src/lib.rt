@@ -11,7 +11,7 @@ mod stages;
 mod values;
 mod words;
 
-pub use cuts::{Cut, Side, lies_between};
+pub use cuts::{Cut, lies_between};
 pub use faults::{Layer, ScaleFault};
 pub use held::Word;
 pub use scales::Scale;

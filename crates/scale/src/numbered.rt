@@ -3,7 +3,7 @@ ghost use Rattle.std.specs.Prelude.{◌≡◌, ℤ};
 ghost use Rattle.scale.specs.Numbered.{edge, picked_number};
 ghost use Rattle.scale.specs.declared.numbered.Row.{Row};
 
-use crate::cuts::{Cut, Side};
+use crate::cuts::Cut;
 
 // The marks' numbers run from `least` to just below `past`.
 #[derive(Clone, Copy)]
@@ -30,8 +30,8 @@ fn edge_of<S: Numbered>(cut: Cut<S>) -> i64
 {
     match cut {
         Cut::LowerEnd => S::ROW.least as i64,
-        Cut::At(m, Side::Below) => m.to_number() as i64,
-        Cut::At(m, Side::Above) => m.to_number() as i64 + 1,
+        Cut::Below(m) => m.to_number() as i64,
+        Cut::Above(m) => m.to_number() as i64 + 1,
         Cut::UpperEnd => S::ROW.past,
     }
 }

@@ -71,8 +71,6 @@ impl Scale for Reading {
 
     ghost picked = { reading_picked };
 
-    ghost ranks_order = { Prim.search rules };
-
     ghost ranks_apart = { reading_ranks_apart };
 
     ghost ranks_fit = { first_of (Prim.search rules, Prim.grind (arith, Self.row.coded.inj)) };
@@ -86,6 +84,10 @@ impl Scale for Reading {
     ghost texts_run = { reading_texts_run };
 
     ghost picks = { first_of (Prim.search rules, Prim.grind (arith, Self.row.coded.inj)) };
+
+    fn is_before(self, other: Reading) -> bool {
+        self < other
+    }
 
     fn to_code(self) -> u32 {
         self.to_i32().cast_unsigned()

@@ -5,12 +5,11 @@ ghost use Rattle.scale.specs.declared.cuts.Cut.{Cut};
 ghost use Rattle.scale.specs.Marks.{Apart, Names, RunText};
 ghost use Rattle.scale.specs.Cuts.{Picks};
 ghost use Rattle.scale.specs.Words.{bytes_of};
-ghost use Rattle.std.specs.Ordering.{nat_cmp};
 
 use crate::cuts::Cut;
 use crate::held::Word;
 
-pub trait Scale: Copy + Ord {
+pub trait Scale: Copy {
     // The place of a mark in the order.
     ghost rank: { Self → ℕ };
 
@@ -29,12 +28,9 @@ pub trait Scale: Copy + Ord {
     // The mark that the scale picks between two cuts.
     ghost picked: { Cut Self → Cut Self → Option Self };
 
-    // Whether this mark is before the other: the order by `<`, promised in terms of ranks.
+    // Whether this mark is before the other.
     fn is_before(self, other: Self) -> bool
-        ensures { result ≡ nat_lt (rank self) (rank other) }
-    {
-        self < other
-    }
+        ensures { result ≡ nat_lt (rank self) (rank other) };
 
     fn to_code(self) -> u32
         ensures { result ≡ code self };
@@ -54,8 +50,6 @@ pub trait Scale: Copy + Ord {
 
     fn pick(lower: Cut<Self>, upper: Cut<Self>) -> Option<Self>
         ensures { result ≡ picked lower upper };
-
-    ghost ranks_order: { (m n : Self) → Self.cmp m n ≡ nat_cmp (rank m) (rank n) };
 
     ghost ranks_apart: { Apart rank };
 

@@ -61,8 +61,6 @@ impl Scale for Stage {
 
     ghost picked = { stage_picked };
 
-    ghost ranks_order = { Prim.search rules };
-
     ghost ranks_apart = { Prim.search rules };
 
     ghost ranks_fit = { Prim.search rules };
@@ -76,6 +74,10 @@ impl Scale for Stage {
     ghost texts_run = { Prim.search rules };
 
     ghost picks = { Prim.search rules };
+
+    fn is_before(self, other: Stage) -> bool {
+        self < other
+    }
 
     fn to_code(self) -> u32 {
         self as u32
@@ -94,13 +96,13 @@ impl Scale for Stage {
     }
 
     fn to_text(self) -> Word {
-        Word::new(match self {
-            Stage::Off => b"off",
-            Stage::Leaving => b"leaving",
-            Stage::Travel => b"travel",
-            Stage::Arriving => b"arriving",
-            Stage::On => b"on",
-        })
+        match self {
+            Stage::Off => Word::new(b"off"),
+            Stage::Leaving => Word::new(b"leaving"),
+            Stage::Travel => Word::new(b"travel"),
+            Stage::Arriving => Word::new(b"arriving"),
+            Stage::On => Word::new(b"on"),
+        }
     }
 
     fn of_text(run: &[u8]) -> Option<Stage> {

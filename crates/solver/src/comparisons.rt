@@ -4,17 +4,17 @@ ghost use Rattle.solver.specs.Comparisons.{side_of, meets};
 
 use domain::Interval;
 use formula::Comparator;
-use scale::{Cut, Scale, Side};
+use scale::{Cut, Scale};
 
 // The limits for which a mark compares so with the limit.
 pub fn bounded_by<S: Scale>(mark: S, comparator: Comparator) -> Interval<S>
     ensures { result ≡ side_of comparator mark }
 {
     let (lower, upper) = match comparator {
-        Comparator::Less => (Cut::At(mark, Side::Above), Cut::UpperEnd),
-        Comparator::Greater => (Cut::LowerEnd, Cut::At(mark, Side::Below)),
-        Comparator::AtMost => (Cut::At(mark, Side::Below), Cut::UpperEnd),
-        Comparator::AtLeast => (Cut::LowerEnd, Cut::At(mark, Side::Above)),
+        Comparator::Less => (Cut::Above(mark), Cut::UpperEnd),
+        Comparator::Greater => (Cut::LowerEnd, Cut::Below(mark)),
+        Comparator::AtMost => (Cut::Below(mark), Cut::UpperEnd),
+        Comparator::AtLeast => (Cut::LowerEnd, Cut::Above(mark)),
     };
     Interval { lower, upper }
 }
@@ -24,9 +24,9 @@ pub fn compares<S: Scale>(mark: S, comparator: Comparator, other: S) -> bool
     ensures { result ≡ meets S.rank mark comparator other }
 {
     match comparator {
-        Comparator::Less => mark < other,
-        Comparator::Greater => mark > other,
-        Comparator::AtMost => mark <= other,
-        Comparator::AtLeast => mark >= other,
+        Comparator::Less => mark.is_before(other),
+        Comparator::Greater => other.is_before(mark),
+        Comparator::AtMost => !other.is_before(mark),
+        Comparator::AtLeast => !mark.is_before(other),
     }
 }

@@ -12,10 +12,11 @@ returns g c =
     let meaning = g.R.Recording.meaning in
     let m = meaning c.args.below in
     let made = c.over.ensures in
-    let told = told_next rest (λ s. peak_of rank s.channel) c.over.result c.args.below c.at.result made.below made.working in
+    let told = told_next rest meaning (λ s. peak_of rank s.channel) c.over.result c.args.below c.at.result made.below made.working made.number in
     let channel = ap (λ (n : ℕ). layered rest (peak_of rank n m) m.channels m) c.at.ensures in
     record {
       below = made.below;
       channel = ap (λ s. s.channel) made.working ∙ c.at.ensures;
+      number = made.number;
       peak = subst (PeakOver rank rest c.args.channel m) (sym (told ∙ channel)) (peak_over rank rest c.args.channel m (g.met.R.Recording.sound c.args.below));
     }
